@@ -1,0 +1,4 @@
+mod PointLemmas
+mod DigitLemmas
+mod WorthLemmas
+mod ReadBack

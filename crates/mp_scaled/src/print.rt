@@ -1,0 +1,98 @@
+//! Printed numbers.
+
+ghost use Rattle.std.specs.Prelude.{ℕ, pos, Ok, ◌≡◌, ◌+◌, ◌*◌, ◌<◌, ◌≤◌, ◌^◌, [], ◌∷◌, ◌++◌, if◌then◌else◌, decimal, take, unsigned_abs};
+ghost use Rattle.mp_scaled.specs.Decimal.{decimal_of};
+ghost use Rattle.mp_scaled.specs.Print.{rounded_last, digits_within, printed_fraction, printed};
+
+use itoa::Buffer;
+
+/// Writes a number of units of 2^-16 in decimal, and says how many bytes it took. What is written of a number
+/// that is not negative reads back as that number ([`printed_reads_back`]).
+pub fn print_scaled(value: i64, to: &mut [u8; 16]) -> usize
+    requires { unsigned_abs value ≤ 2 ^ 32 }
+    ensures text { take result to.new ≡ printed value }
+    ensures short { result ≤ 16 }
+{
+    let magnitude = value.unsigned_abs();
+    let sign_end = put_sign(value < 0, to);
+    let whole_end = put_whole((magnitude / 65536) as u32, sign_end, to);
+    put_fraction((magnitude % 65536) as u32, whole_end, to)
+}
+
+/// A law: what is printed of a scaled number that is not negative reads back as that same number.
+pub fn printed_reads_back()
+    ensures { (units : ℕ) → units < 2 ^ 31 → decimal_of (printed (pos units)) ≡ Ok (pos units) }
+{}
+
+fn put_sign(negative: bool, to: &mut [u8; 16]) -> usize
+    ensures text { take result to.new ≡ (if negative then 45 ∷ [] else []) }
+    ensures short { result ≤ 1 }
+{
+    if negative {
+        to[0] = b'-';
+        1
+    } else {
+        0
+    }
+}
+
+fn put_whole(whole: u32, at: usize, to: &mut [u8; 16]) -> usize
+    requires small { whole < 10 ^ 5 }
+    requires room { at ≤ 1 }
+    ensures text { take result to.new ≡ take at to.old ++ decimal whole }
+    ensures short { result ≤ at + 5 }
+{
+    let mut buffer = Buffer::new();
+    let digits = buffer.format(whole).as_bytes();
+    let end = at + digits.len();
+    to[at..end].copy_from_slice(digits);
+    end
+}
+
+fn put_fraction(units: u32, at: usize, to: &mut [u8; 16]) -> usize
+    requires below_one { units < 65536 }
+    requires room { at ≤ 6 }
+    ensures text { take result to.new ≡ take at to.old ++ printed_fraction units }
+    ensures short { result ≤ at + 6 }
+{
+    if units == 0 {
+        return at;
+    }
+    to[at] = b'.';
+    put_digits(units, at + 1, to)
+}
+
+fn put_digits(units: u32, at: usize, to: &mut [u8; 16]) -> usize
+    requires below_one { units < 65536 }
+    requires not_whole { 0 < units }
+    requires room { at ≤ 7 }
+    ensures text { take result to.new ≡ take at to.old ++ digits_within 5 (10 * units + 5) 10 }
+    ensures short { result ≤ at + 5 }
+{
+    let mut s = 10 * units + 5;
+    let mut delta = 10;
+    'digits: for place in at..at + 5 {
+        s = rounded(s, delta);
+        to[place] = b'0' + (s / 65536) as u8;
+        s = 10 * (s % 65536);
+        delta *= 10;
+        if s <= delta {
+            return place + 1;
+        }
+    }
+    at + 5
+}
+
+// What the next digit is taken from.
+fn rounded(s: u32, delta: u32) -> u32
+    requires left { delta < s }
+    requires small { s < 655360 }
+    ensures value { result ≡ rounded_last s delta }
+    ensures small { result < 655360 }
+{
+    if delta > 65536 {
+        s + 32768 - delta / 2
+    } else {
+        s
+    }
+}
