@@ -1,0 +1,6 @@
+mod NameLemmas
+mod DecimalLemmas
+mod LexemeLemmas
+mod LineLemmas
+mod ItemLemmas
+mod Examples

@@ -1,0 +1,6 @@
+pub mod Names
+pub mod Classes
+pub mod Lexemes
+pub mod Lines
+pub mod Items
+pub mod Reading
