@@ -1,0 +1,92 @@
+-- On outcomes: what the parts of the top call did makes the outcome of the whole.
+use Rattle.std.proofs.Common.{◌≡◌, ◌≤◌, ◌<◌, arith, ℕ, List, [], refl, sym, ◌∙◌, ap, subst, min, length}
+use Rattle.mp_files.specs.declared.outside.Kept.{Kept}
+use Rattle.mpost.specs.declared.deliver.Delivered.{Delivered}
+use Rattle.mpost.specs.declared.deliver.Delivered.TheVariants as delivered
+use Rattle.mpost.specs.declared.outcome.Run.{Run}
+use Rattle.mp_files.specs.declared.outside.Written.{Written}
+use Rattle.mp_files.specs.declared.outside.Written.TheVariants as written
+use Rattle.mp_files.specs.Seen.{SinkSeen}
+use Rattle.mpost.specs.declared.top.End.{End}
+use Rattle.mpost.specs.declared.top.End.TheVariants.{Usage, ReadFault, NoMemory}
+use Rattle.mpost.specs.declared.top.Report.{Report}
+use Rattle.mpost.specs.Delivery.{DeliverGives}
+use Rattle.mpost.specs.Gives.{Follows, ReadCause}
+use Rattle.mpost.specs.Headline.{Outside, ends, reported, own_end, line_of, end_after, end_said, IsReadFault, Says, KeepsNothing, OneLine, Ran, RunOutcome, UsageOutcome, ran, starved}
+use Rattle.mpost.specs.Run.{Course, RunEnding, Ended, Unread, run_of}
+
+keeps_nothing : (named : End) (report : Report) (before now : SinkSeen) → Says named report before now → KeepsNothing report
+keeps_nothing named report before now says = record {
+  sources = ap (λ (r : Report). r.sources) says.1;
+  main = ap (λ (r : Report). r.main) says.1;
+  seed = ap (λ (r : Report). r.seed) says.1;
+  budget = ap (λ (r : Report). r.budget) says.1;
+  steps = ap (λ (r : Report). r.steps) says.1;
+}
+
+-- memory ran out, and its line was all that was written
+pub starved_by : (name : List ℕ) (allowed : ℕ) (report : Report) (before now : Outside)
+    → before.files.faults ≤ now.files.faults → now.shelf ≡ before.shelf
+    → Says NoMemory report before.out now.out → RunOutcome name allowed report before now
+starved_by name allowed report before now later shelf says =
+    starved says.0 later (keeps_nothing NoMemory report before.out now.out says) (record { end = ap (λ (r : Report). r.end) says.1; out = says.2; shelf = shelf })
+
+-- a word was refused, and its line was all that was written
+pub refused_by : (word : ℕ) (report : Report) (before now : Outside)
+    → now.files ≡ before.files → now.shelf ≡ before.shelf
+    → Says (Usage word) report before.out now.out → UsageOutcome word report before now
+refused_by word report before now files shelf says =
+    (files, keeps_nothing (Usage word) report before.out now.out says, (says.0, record { end = ap (λ (r : Report). r.end) says.1; out = says.2; shelf = shelf }))
+
+-- a report of a run, by what the run and the writing gave
+pub record Reports (run : Run) (allowed : ℕ) (at : Delivered) (report : Report) : Type 0 where
+  pub sources : report.sources ≡ run.sources
+  pub main : report.main ≡ min 1 (length report.sources)
+  pub steps : report.steps ≡ run.steps
+  pub seed : report.seed ≡ 0
+  pub budget : report.budget ≡ allowed
+  pub end : report.end ≡ end_after at (reported run.end)
+
+-- a run that follows its course, as it was reported and written
+ran_as : (course : Course) (allowed : ℕ) (run : Run) (at : Delivered) (report : Report) (before now : Outside)
+    → Follows run course before.files now.files → Reports run allowed at report
+    → DeliverGives run.lines run.figures (line_of run.sources (reported run.end)) (ends before) (ends now) at
+    → Ran course allowed at report before now
+ran_as course allowed run at report before now f r written = record {
+  end = r.end ∙ ap (λ e. end_after at (reported e)) f.end;
+  follows = record { names = rw r.sources f.names; main = r.main; steps = r.steps ∙ f.steps; seed = r.seed; budget = r.budget; asked = f.asked; cause = f.cause };
+  written = rw (r.sources, ← f.lines, ← f.figures, ← f.end) written;
+}
+
+pub ran_by : (called name : List ℕ) (allowed : ℕ) (run : Run) (at : Delivered) (report : Report) (before now : Outside)
+    → called ≡ name → Follows run (run_of run.sources called allowed) before.files now.files → Reports run allowed at report
+    → DeliverGives run.lines run.figures (line_of run.sources (reported run.end)) (ends before) (ends now) at
+    → RunOutcome name allowed report before now
+ran_by called name allowed run at report before now is f r written =
+    let P : List Kept → Type 0 = λ s. Ran (run_of s called allowed) allowed at report before now in
+    let Q : List ℕ → Type 0 = λ n. RunOutcome n allowed report before now in
+    subst Q is (ran at (subst P (sym r.sources) (ran_as (run_of run.sources called allowed) allowed run at report before now f r written)))
+
+after_unread : (at : Delivered) → IsReadFault (end_after at ReadFault)
+after_unread delivered.All = tt
+after_unread delivered.LinesFailed = tt
+after_unread delivered.PutFailed = tt
+after_unread delivered.LineFailed = tt
+
+said_starved : (at : Written) → IsReadFault (end_said at NoMemory)
+said_starved written.Written = tt
+said_starved written.Failed = tt
+
+unread_alone : (ending : RunEnding) (at : Delivered) (before now : ℕ) → ReadCause ending before now → before < now → IsReadFault (end_after at (own_end ending))
+unread_alone (Ended ending) at before now cause more = absurd (omega (arith, cause))
+unread_alone (Unread name) at before now cause more = after_unread at
+
+-- where the count of reads is greater than before, the end says so
+pub reads_counted_by : (name : List ℕ) (allowed : ℕ) (report : Report) (before now : Outside)
+    → RunOutcome name allowed report before now → before.files.faults < now.files.faults → IsReadFault report.end
+reads_counted_by name allowed report before now (ran at r) more =
+    let P : End → Type 0 = λ e. IsReadFault e in
+    subst P (sym r.end) (unread_alone (run_of report.sources name allowed).ending at before.files.faults now.files.faults r.follows.cause more)
+reads_counted_by name allowed report before now (starved at later nothing line) more =
+    let P : End → Type 0 = λ e. IsReadFault e in
+    subst P (sym line.end) (said_starved at)
