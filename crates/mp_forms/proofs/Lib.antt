@@ -1,0 +1,3 @@
+pub mod RatioLemmas
+pub mod TermLemmas
+pub mod LimitLemmas
