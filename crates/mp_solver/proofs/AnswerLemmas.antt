@@ -1,0 +1,90 @@
+-- The answer to an equation, once the pivot's new form has replaced it everywhere.
+use Rattle.std.proofs.Common.{◌≡◌, ℕ, ◌-◌, ◌<◌, ◌≤◌, ◌^◌, min, unsigned_abs, Bool, true, false, ◌||◌, List, [], ◌∷◌, ◌++◌, Some, map, length, get_or, set, take, refl, sym, ap, ◌∙◌, arith}
+use Rattle.std.specs.List.{list_any, fold}
+use Rattle.std.specs.Option.{option_map}
+use Rattle.std.proofs.lemmas.Bool.{lt-ltb, le-ltb, lt-leb}
+use Rattle.std.proofs.lemmas.List.{take_all, length-map, append-nil, drop_all}
+use Rattle.std.proofs.lemmas.List.Sums.{fold-append}
+use Rattle.std.proofs.lemmas.List.Folds.{list_any_none}
+use Rattle.std.proofs.lemmas.List.Elements.{All-nil, All-cons, All-append}
+use Rattle.mp_pool.specs.declared.Term.{Term}
+use Rattle.mp_forms.specs.Terms.{is_too_large}
+use Rattle.mp_forms.specs.Forms.{LinearForm}
+use Rattle.mp_solver.specs.declared.change.Change.{Change}
+use Rattle.mp_solver.specs.declared.equated.Equated.TheVariants.{Accepted, CoefficientTooLarge, Overflow, Limit}
+use Rattle.mp_solver.specs.States.{States}
+use Rattle.mp_solver.specs.Elimination.{pivot_of, solved_for, replaced, solved_states, forms_in, has_large_coefficient, has_large_constant, term_count, within_limits, eliminate, eliminate_by}
+use Rattle.mp_solver.specs.Ready.{with_change, IsReady, IsResidual}
+use Rattle.mp_solver.proofs.EliminationLemmas.{list_any-set, term_count-set, slot_within, slot_empty, pivot_within, new_terms}
+use Rattle.mp_solver.proofs.SubstitutionLemmas.{IsTally}
+
+module _ (states : States) (residual : LinearForm) (is : IsResidual states residual) (pivot : Term) (found : pivot_of residual.terms ≡ Some pivot) where
+  abbrev new : LinearForm
+  new = solved_for pivot residual
+
+  abbrev mapped : States
+  mapped = map (option_map (replaced pivot.serial new)) states
+
+  abbrev after : States
+  after = solved_states states pivot new
+
+  any_after : (test : LinearForm → Bool) → list_any test (forms_in after) ≡ (test new || list_any test (forms_in mapped))
+  any_after test = list_any-set test mapped (pivot.serial - 1) new (slot_within states residual is pivot found) (slot_empty states residual is pivot found)
+
+  new_small : has_large_coefficient new ≡ false
+  new_small =
+      list_any_none is_too_large new.terms (λ i d lt. lt-leb (2 ^ 44) (unsigned_abs (get_or new.terms i d).coefficient) ((new_terms states residual is pivot found).coefficients i d lt).1)
+
+  by_limits : eliminate states residual ≡ within_limits states after
+  by_limits = ap (eliminate_by states residual) found
+
+  -- some form has too large a coefficient
+  pub answer-too_large : list_any has_large_coefficient (forms_in mapped) ≡ true → (CoefficientTooLarge, states) ≡ eliminate states residual
+  answer-too_large large =
+      let some : list_any has_large_coefficient (forms_in after) ≡ true = any_after has_large_coefficient ∙ rw (new_small, large) refl in
+      sym (by_limits ∙ rw some refl)
+
+  module _ (i : ℕ) (all : length states ≤ i) (changes : List Change) (overflows : Bool) (terms : ℕ) (tally : IsTally states pivot.serial new i changes overflows terms) where
+    whole : take i mapped ≡ mapped
+    whole = let same = length-map states (option_map (replaced pivot.serial new)) in take_all i mapped (omega (arith, all, same))
+
+    coefficients : list_any has_large_coefficient (forms_in after) ≡ false
+    coefficients = any_after has_large_coefficient ∙ ap (λ b. b || list_any has_large_coefficient (forms_in mapped)) new_small ∙ ap (λ ss. list_any has_large_coefficient (forms_in ss)) (sym whole) ∙ tally.small
+
+    constants : list_any has_large_constant (forms_in after) ≡ overflows
+    constants = any_after has_large_constant ∙ ap (λ ss. has_large_constant new || list_any has_large_constant (forms_in ss)) (sym whole) ∙ sym tally.overflow
+
+    pub answer-overflow : overflows ≡ true → (Overflow, states) ≡ eliminate states residual
+    answer-overflow over = sym (by_limits ∙ rw (coefficients, constants, over) refl)
+
+    count : overflows ≡ false → terms ≡ min (term_count after) 4000001
+    count fits =
+        let before = tally.counted fits in
+        let total : term_count (take i mapped) ≡ term_count mapped = ap term_count whole in
+        let sum = term_count-set mapped (pivot.serial - 1) new (slot_within states residual is pivot found) (slot_empty states residual is pivot found) in
+        omega (arith, before, total, sum)
+
+    pub answer-limit : overflows ≡ false → 4000000 < terms → (Limit, states) ≡ eliminate states residual
+    answer-limit fits many =
+        let counted = count fits in
+        let more : 4000000 < term_count after = omega (arith, counted, many) in
+        sym (by_limits ∙ rw (coefficients, constants, fits, lt-ltb 4000000 (term_count after) more) refl)
+
+    -- all forms are within the limits
+    pub IsReady-accepted : (form : LinearForm) → overflows ≡ false → form ≡ new → terms ≤ 4000000 →
+        IsReady states residual Accepted (changes ++ record { index = pivot.serial - 1; form = form } ∷ []) terms
+    IsReady-accepted form fits same few =
+        let last : Change = record { index = pivot.serial - 1; form = form } in
+        let counted = count fits in
+        let less : term_count after ≤ 4000000 = omega (arith, counted, few) in
+        let replaced_all : fold with_change states changes ≡ mapped =
+        tally.applied fits ∙ ap (λ ss. take i mapped ++ ss) (drop_all i states all) ∙ append-nil (take i mapped) ∙ whole in
+        let folded : fold with_change states (changes ++ last ∷ []) ≡ after =
+        fold-append with_change states changes (last ∷ []) ∙ ap (λ ss. set ss (pivot.serial - 1) (Some form)) replaced_all ∙ ap (λ f. set mapped (pivot.serial - 1) (Some f)) same in
+        let at : last.index < length states = let within = pivot_within states residual is pivot found in omega (arith, within.0, within.1) in
+        record {
+          is_residual = is;
+          outcome = ap (λ ss. (Accepted, ss)) folded ∙ sym (by_limits ∙ rw (coefficients, constants, fits, le-ltb 4000000 (term_count after) less) refl);
+          within = All-append (λ change. change.index < length states) changes (last ∷ []) tally.within (All-cons (λ change. change.index < length states) last [] at (All-nil (λ change. change.index < length states)));
+          terms_count = λ _. let same_count = ap term_count folded in omega (arith, counted, few, same_count);
+        }

@@ -1,0 +1,10 @@
+pub mod StateLemmas
+pub mod ReductionLemmas
+pub mod QuotientLemmas
+pub mod TermLists
+pub mod EliminationLemmas
+pub mod OutcomeLemmas
+pub mod SubstitutionLemmas
+pub mod AnswerLemmas
+pub mod StepLemmas
+pub mod Examples

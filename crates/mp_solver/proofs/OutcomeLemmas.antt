@@ -1,0 +1,91 @@
+-- What an equation leaves: the system as it was, or one that is solved again.
+use Rattle.std.proofs.Common.{◌≡◌, ◌≢◌, ◌⊎◌, ℕ, ◌+◌, ◌≤◌, ℤ, unsigned_abs, Bool, true, false, cond, leb, ltb, List, Option, Some, None, length, refl, sym, ap, ◌∙◌, subst, inl, inr, arith}
+use Rattle.std.specs.List.{list_any, fold}
+use Rattle.std.proofs.lemmas.Bool.{ltb-false}
+use Rattle.mp_pool.specs.declared.Term.{Term}
+use Rattle.mp_forms.specs.Forms.{LinearForm}
+use Rattle.mp_solver.specs.declared.change.Change.{Change}
+use Rattle.mp_solver.specs.declared.equated.Equated.{Equated}
+use Rattle.mp_solver.specs.declared.equated.Equated.TheVariants.{Accepted, Redundant, Inconsistent, CoefficientTooLarge, Overflow, Limit}
+use Rattle.mp_solver.specs.States.{States}
+use Rattle.mp_solver.specs.Elimination.{pivot_of, solved_for, solved_states, forms_in, has_large_coefficient, has_large_constant, term_count, eliminate, eliminate_by}
+use Rattle.mp_solver.specs.Ready.{with_change, IsReady}
+use Rattle.mp_solver.specs.Solved.{IsKept}
+use Rattle.mp_solver.proofs.EliminationLemmas.{IsSolved-after, length_after, length-forms_in_after}
+
+module _ (states : States) (residual : LinearForm) where
+  record IsTaken (after : States) : Type 0 where
+    pivot : Term
+    found : pivot_of residual.terms ≡ Some pivot
+    is : after ≡ solved_states states pivot (solved_for pivot residual)
+    coefficients : list_any has_large_coefficient (forms_in after) ≡ false
+    constants : list_any has_large_constant (forms_in after) ≡ false
+    few : term_count after ≤ 4000000
+
+  abbrev Outcome : Equated × States → Type 0
+  Outcome e = ((e.0 ≢ Accepted) × (e.1 ≡ states)) ⊎ ((e.0 ≡ Accepted) × IsTaken e.1)
+
+  judged_refuses : (z : ℤ) (b : Bool) → cond b (Redundant z) (Inconsistent z) ≢ Accepted
+  judged_refuses z true e = cc
+  judged_refuses z false e = cc
+
+  by_limits : (pivot : Term) → pivot_of residual.terms ≡ Some pivot → (after : States) → after ≡ solved_states states pivot (solved_for pivot residual) → (a b c : Bool) →
+      list_any has_large_coefficient (forms_in after) ≡ a → list_any has_large_constant (forms_in after) ≡ b → ltb 4000000 (term_count after) ≡ c →
+      Outcome (cond a (CoefficientTooLarge, states) (cond b (Overflow, states) (cond c (Limit, states) (Accepted, after))))
+  by_limits pivot found after is true b c e f g = inl (λ e. cc, refl)
+  by_limits pivot found after is false true c e f g = inl (λ e. cc, refl)
+  by_limits pivot found after is false false true e f g = inl (λ e. cc, refl)
+  by_limits pivot found after is false false false e f g = inr (
+    refl,
+    record {
+      pivot = pivot;
+      found = found;
+      is = is;
+      coefficients = e;
+      constants = f;
+      few = ltb-false 4000000 (term_count after) g;
+    },
+  )
+
+  by_pivot : (pivot : Option Term) → pivot_of residual.terms ≡ pivot → Outcome (eliminate_by states residual pivot)
+  by_pivot None found = inl (judged_refuses residual.constant (leb (unsigned_abs residual.constant) 64), refl)
+  by_pivot (Some pivot) found = by_limits pivot found (solved_states states pivot (solved_for pivot residual)) refl _ _ _ refl refl refl
+
+  outcome : Outcome (eliminate states residual)
+  outcome = by_pivot (pivot_of residual.terms) refl
+
+module _ (made_for states : States) (same : made_for ≡ states) (residual : LinearForm) (answer : Equated) (changes : List Change) (terms : ℕ) (ready : IsReady made_for residual answer changes terms) (new : States) (is : new ≡ fold with_change states changes) where
+  here : IsReady states residual answer changes terms
+  here = subst (λ s. IsReady s residual answer changes terms) same ready
+
+  result : (answer, new) ≡ eliminate states residual
+  result = ap (λ s. (answer, s)) is ∙ here.outcome
+
+  outcome_here : Outcome states residual (answer, new)
+  outcome_here = subst (Outcome states residual) (sym result) (outcome states residual)
+
+  -- an equation that is not accepted changes nothing
+  pub equate-refused : answer ≢ Accepted → new ≡ states
+  equate-refused refused = elim outcome_here [ inl left ↦ left.1 | inr taken ↦ absurd (refused taken.0) ]
+
+  -- an accepted one leaves a solved system
+  pub equate-accepted : {names : List (Option (List ℕ))} (dependent old_terms : ℕ) → answer ≡ Accepted → IsKept states names dependent old_terms → IsKept new names (dependent + 1) terms
+  equate-accepted {names} dependent old_terms accepted kept =
+      elim outcome_here [
+        | inl left ↦ absurd (left.0 accepted)
+        | inr both ↦
+            let taken = both.1 in
+            let longer = length_after states residual here.is_residual taken.pivot taken.found in
+            let more = length-forms_in_after states residual here.is_residual taken.pivot taken.found in
+            let same_length : length new ≡ length states = ap length taken.is ∙ longer in
+            record {
+              names_length = kept.names_length ∙ sym same_length;
+              states_length = omega (arith, same_length, kept.states_length);
+              dependent_count = ap (λ n. n + 1) kept.dependent_count ∙ sym (ap (λ s. length (forms_in s)) taken.is ∙ more);
+              terms_count = here.terms_count accepted ∙ ap term_count (sym is);
+              solved =
+                  rw (taken.is)
+                  (IsSolved-after states residual here.is_residual taken.pivot taken.found kept.solved
+                  (rw (sym taken.is) taken.coefficients) (rw (sym taken.is) taken.constants) (rw (sym taken.is) taken.few));
+            }
+      ]

@@ -1,0 +1,255 @@
+-- The pivot's new form replaces it, form by form.
+use Rattle.std.proofs.Common.{◌≡◌, ℕ, ◌+◌, ◌<◌, ◌≤◌, ◌^◌, min, ℤ, ◌+ℤ◌, unsigned_abs, Bool, true, false, ◌||◌, cond, leb, ltb, List, [], ◌∷◌, ◌++◌, Option, Some, None, Ok, Err, zero, suc, map, length, get_or, set, take, drop, refl, sym, ap, ◌∙◌, subst, arith}
+use Rattle.std.specs.List.{All, list_any, sum_by, fold}
+use Rattle.std.specs.Option.{option_map}
+use Rattle.std.proofs.lemmas.Bool.{ltb-true, ltb-false, le-leb, leb-true}
+use Rattle.std.proofs.lemmas.List.{take_more, drop_more, append-nil, length-map, append_assoc, length-take-le}
+use Rattle.std.proofs.lemmas.List.Sums.{sum_by-append, fold-append}
+use Rattle.std.proofs.lemmas.List.Folds.{list_any-append}
+use Rattle.std.proofs.lemmas.List.Elements.{filter_map-append, All-nil, All-cons, All-append}
+use Rattle.mp_pool.specs.declared.Term.{Term}
+use Rattle.mp_forms.specs.declared.fault.FormFault.TheVariants.{Overflow, CoefficientTooLarge}
+use Rattle.mp_forms.specs.Ratios.{times_fraction}
+use Rattle.mp_forms.specs.Terms.{sum_terms, is_too_large}
+use Rattle.mp_forms.specs.Forms.{LinearForm, sum_of}
+use Rattle.mp_solver.specs.declared.solution.Replacement.{Replacement}
+use Rattle.mp_solver.specs.declared.solution.Replacement.TheVariants.{Kept, Changed, Overflows, TooLarge}
+use Rattle.mp_solver.specs.declared.change.Change.{Change}
+use Rattle.mp_solver.specs.States.{States}
+use Rattle.mp_solver.specs.Elimination.{without, term_of, replaced, replaced_term, forms_in, has_large_coefficient, has_large_constant, term_count}
+use Rattle.mp_solver.specs.Solution.{replaced_sum, replacement_of}
+use Rattle.mp_solver.specs.Ready.{with_change}
+
+module _ (serial : ℕ) (new : LinearForm) (k : ℤ) (overflows : Bool) (same : overflows ≡ false → k ≡ new.constant) where
+  -- the new form as it is held
+  abbrev held : LinearForm
+  held = record { constant = k; terms = new.terms }
+
+  -- what the answer says of the form q that it stands for
+  abbrev pub Says : LinearForm → LinearForm → Replacement → Type 0
+  Says p q Kept = q ≡ p
+  Says p q (Changed form) = (has_large_coefficient q ≡ false) × (overflows ≡ false → (form ≡ q) × (has_large_constant q ≡ false))
+  Says p q Overflows = (has_large_coefficient q ≡ false) × (overflows ≡ false → has_large_constant q ≡ true)
+  Says p q TooLarge = has_large_coefficient q ≡ true
+
+  not_below : (a b : ℕ) → ltb a b ≡ false → leb b a ≡ true
+  not_below a b e = le-leb b a (omega (arith, ltb-false a b e))
+
+  below_is : (a b : ℕ) (c : Bool) → leb b a ≡ c → ltb a b ≡ true → leb b a ≡ false
+  below_is a b true e lt = absurd (omega (arith, ltb-true a b lt, leb-true b a e))
+  below_is a b false e lt = e
+
+  module _ (p : LinearForm) (t : Term) where
+    abbrev terms : List Term
+    terms = sum_terms (times_fraction t.coefficient) (without serial p.terms) new.terms
+
+    abbrev constant : ℤ
+    constant = p.constant +ℤ times_fraction t.coefficient k
+
+    abbrev constant_new : ℤ
+    constant_new = p.constant +ℤ times_fraction t.coefficient new.constant
+
+    abbrev sum : LinearForm
+    sum = record { constant = constant_new; terms = terms }
+
+    says_term : (a b : Bool) → list_any is_too_large terms ≡ a → ltb (unsigned_abs constant) (2 ^ 31) ≡ b →
+        Says p sum (replacement_of (Some (cond a (Err CoefficientTooLarge) (cond b (Ok (record { constant = constant; terms = terms })) (Err Overflow)))))
+    says_term true b e f = e
+    says_term false true e f = (
+      e,
+      λ fits.
+          let is : k ≡ new.constant = same fits in
+          let is' : constant ≡ constant_new = ap (λ n. p.constant +ℤ times_fraction t.coefficient n) is in (
+            ap (λ n. record { constant = n; terms = terms }) is',
+            below_is (unsigned_abs constant_new) (2 ^ 31) _ refl (ap (λ n. ltb (unsigned_abs n) (2 ^ 31)) (sym is') ∙ f),
+          ),
+    )
+    says_term false false e f = (
+      e,
+      λ fits.
+          let is : k ≡ new.constant = same fits in
+          let is' : constant ≡ constant_new = ap (λ n. p.constant +ℤ times_fraction t.coefficient n) is in
+          not_below (unsigned_abs constant_new) (2 ^ 31) (ap (λ n. ltb (unsigned_abs n) (2 ^ 31)) (sym is') ∙ f),
+    )
+
+  says_by : (p : LinearForm) (t : Option Term) → Says p (replaced_term serial new p t) (replacement_of (option_map (λ t. sum_of t.coefficient (record p { terms = without serial p.terms }) held) t))
+  says_by p None = refl
+  says_by p (Some t) = says_term p t _ _ refl refl
+
+  pub says : (p : LinearForm) (answer : Replacement) → answer ≡ replacement_of (replaced_sum serial held p) → Says p (replaced serial new p) answer
+  says p answer is = subst (Says p (replaced serial new p)) (sym is) (says_by p (term_of serial p.terms))
+
+-- one more state
+forms_in-more_none : (done : States) → forms_in (done ++ None ∷ []) ≡ forms_in done
+forms_in-more_none done = filter_map-append (λ form. form) done (None ∷ []) ∙ append-nil (forms_in done)
+
+forms_in-more_some : (done : States) (q : LinearForm) → forms_in (done ++ Some q ∷ []) ≡ forms_in done ++ q ∷ []
+forms_in-more_some done q = filter_map-append (λ form. form) done (Some q ∷ [])
+
+or_false_right : (a : Bool) → (a || false) ≡ a
+or_false_right true = refl
+or_false_right false = refl
+
+or_assoc' : (a b c : Bool) → (a || (b || c)) ≡ ((a || b) || c)
+or_assoc' true b c = refl
+or_assoc' false b c = refl
+
+list_any-more : (test : LinearForm → Bool) (done : States) (q : LinearForm) → list_any test (forms_in (done ++ Some q ∷ [])) ≡ (list_any test (forms_in done) || test q)
+list_any-more test done q =
+    ap (list_any test) (forms_in-more_some done q) ∙ list_any-append test (forms_in done) (q ∷ []) ∙ ap (λ b. list_any test (forms_in done) || b) (or_false_right (test q))
+
+term_count-more : (done : States) (q : LinearForm) → term_count (done ++ Some q ∷ []) ≡ term_count done + length q.terms
+term_count-more done q =
+    ap (sum_by (λ p. length p.terms)) (forms_in-more_some done q)
+    ∙ sum_by-append (λ p. length p.terms) (forms_in done) (q ∷ [])
+    ∙ ap (λ n. term_count done + n) (omega arith)
+
+get_or-map : (f : LinearForm → LinearForm) (states : States) (i : ℕ) → get_or (map (option_map f) states) i None ≡ option_map f (get_or states i None)
+get_or-map f [] i = refl
+get_or-map f (s ∷ ss) zero = refl
+get_or-map f (s ∷ ss) (suc i) = get_or-map f ss i
+
+set-seam : (xs ys : States) (old y : Option LinearForm) (i : ℕ) → i ≡ length xs → set (xs ++ old ∷ ys) i y ≡ xs ++ y ∷ ys
+set-seam [] ys old y zero is = refl
+set-seam [] ys old y (suc i) is = absurd (omega (arith, is))
+set-seam (x ∷ xs) ys old y zero is = absurd (omega (arith, is))
+set-seam (x ∷ xs) ys old y (suc i) is = ap (λ zs. x ∷ zs) (set-seam xs ys old y i (omega (arith, is)))
+
+-- how far the loop over the states has come: at i, with these changes, an overflow or none, and so many terms
+pub record IsTally (states : States) (serial : ℕ) (new : LinearForm) (i : ℕ) (changes : List Change) (overflows : Bool) (terms : ℕ) : Type 0 where
+  pub small : list_any has_large_coefficient (forms_in (take i (map (option_map (replaced serial new)) states))) ≡ false
+  pub overflow : overflows ≡ (has_large_constant new || list_any has_large_constant (forms_in (take i (map (option_map (replaced serial new)) states))))
+  pub applied : overflows ≡ false → fold with_change states changes ≡ take i (map (option_map (replaced serial new)) states) ++ drop i states
+  pub counted : overflows ≡ false → terms ≡ min (length new.terms + term_count (take i (map (option_map (replaced serial new)) states))) 4000001
+  pub bounded : terms ≤ 4000001
+  pub within : All (λ change. change.index < length states) changes
+
+pub IsTally-start : (states : States) (serial : ℕ) (new : LinearForm) (overflows : Bool) (terms : ℕ) → overflows ≡ has_large_constant new → terms ≡ min (0 + length new.terms) 4000001 → IsTally states serial new 0 [] overflows terms
+IsTally-start states serial new overflows terms is count = record {
+  small = refl;
+  overflow = is ∙ sym (or_false_right (has_large_constant new));
+  applied = λ _. refl;
+  counted = λ _. omega (arith, count);
+  bounded = omega (arith, count);
+  within = All-nil (λ change. change.index < length states);
+}
+
+or_true_left : (a b : Bool) → a ≡ true → (a || b) ≡ true
+or_true_left true b e = refl
+or_true_left false b e = absurd cc
+
+or_split : (a b : Bool) → (a || b) ≡ false → (a ≡ false) × (b ≡ false)
+or_split true b e = absurd cc
+or_split false b e = (refl, e)
+
+stays_by : (a b : Bool) → (a ≡ false → b ≡ false) → a ≡ (a || b)
+stays_by true b none = refl
+stays_by false b none = sym (none refl)
+
+grows_by : (a b : Bool) → (a ≡ false → b ≡ true) → true ≡ (a || b)
+grows_by true b some = refl
+grows_by false b some = sym (some refl)
+
+module _ (states : States) (serial : ℕ) (new : LinearForm) (i : ℕ) (changes : List Change) (overflows : Bool) (terms : ℕ) (so_far : IsTally states serial new i changes overflows terms) (at : i < length states) where
+  abbrev mapped : States
+  mapped = map (option_map (replaced serial new)) states
+
+  abbrev done : States
+  done = take i mapped
+
+  in_mapped : i < length mapped
+  in_mapped = let same = length-map states (option_map (replaced serial new)) in omega (arith, at, same)
+
+  -- an independent unknown
+  pub IsTally-none : get_or states i None ≡ None → IsTally states serial new (i + 1) changes overflows terms
+  IsTally-none none =
+      let m : get_or mapped i None ≡ None = get_or-map (replaced serial new) states i ∙ ap (option_map (replaced serial new)) none in
+      let next : take (i + 1) mapped ≡ done ++ None ∷ [] = take_more mapped i None in_mapped ∙ ap (λ s. done ++ s ∷ []) m in
+      let forms : forms_in (take (i + 1) mapped) ≡ forms_in done = ap forms_in next ∙ forms_in-more_none done in
+      record {
+        small = ap (list_any has_large_coefficient) forms ∙ so_far.small;
+        overflow = so_far.overflow ∙ ap (λ fs. has_large_constant new || list_any has_large_constant fs) (sym forms);
+        applied = λ fits.
+            so_far.applied fits ∙ ap (λ ss. done ++ ss) (drop_more states i None at ∙ ap (λ s. s ∷ drop (i + 1) states) none)
+            ∙ sym (append_assoc done (None ∷ []) (drop (i + 1) states)) ∙ ap (λ ss. ss ++ drop (i + 1) states) (sym next);
+        counted = λ fits. so_far.counted fits ∙ ap (λ fs. min (length new.terms + sum_by (λ p. length p.terms) fs) 4000001) (sym forms);
+        bounded = so_far.bounded;
+        within = so_far.within;
+      }
+
+  module _ (form : LinearForm) (some : get_or states i None ≡ Some form) where
+    abbrev q : LinearForm
+    q = replaced serial new form
+
+    m_some : get_or mapped i None ≡ Some q
+    m_some = get_or-map (replaced serial new) states i ∙ ap (option_map (replaced serial new)) some
+
+    next : take (i + 1) mapped ≡ done ++ Some q ∷ []
+    next = take_more mapped i None in_mapped ∙ ap (λ s. done ++ s ∷ []) m_some
+
+    pub any_next : (test : LinearForm → Bool) → list_any test (forms_in (take (i + 1) mapped)) ≡ (list_any test (forms_in done) || test q)
+    any_next test = ap (λ ss. list_any test (forms_in ss)) next ∙ list_any-more test done q
+
+    length_done : i ≡ length done
+    length_done = sym (length-take-le i mapped (omega (arith, in_mapped)))
+
+    applied_before : overflows ≡ false → fold with_change states changes ≡ done ++ Some form ∷ drop (i + 1) states
+    applied_before fits = so_far.applied fits ∙ ap (λ ss. done ++ ss) (drop_more states i None at ∙ ap (λ s. s ∷ drop (i + 1) states) some)
+
+    applied_next : done ++ Some q ∷ drop (i + 1) states ≡ take (i + 1) mapped ++ drop (i + 1) states
+    applied_next = sym (append_assoc done (Some q ∷ []) (drop (i + 1) states)) ∙ ap (λ ss. ss ++ drop (i + 1) states) (sym next)
+
+    small_next : has_large_coefficient q ≡ false → list_any has_large_coefficient (forms_in (take (i + 1) mapped)) ≡ false
+    small_next small = any_next has_large_coefficient ∙ rw (so_far.small, small) refl
+
+    overflow_next : (more : Bool) → more ≡ (overflows || has_large_constant q) → more ≡ (has_large_constant new || list_any has_large_constant (forms_in (take (i + 1) mapped)))
+    overflow_next more is =
+        is ∙ ap (λ b. b || has_large_constant q) so_far.overflow
+        ∙ sym (or_assoc' (has_large_constant new) (list_any has_large_constant (forms_in done)) (has_large_constant q))
+        ∙ ap (λ b. has_large_constant new || b) (sym (any_next has_large_constant))
+
+    counted_next : overflows ≡ false → (more : ℕ) → more ≡ min (terms + length q.terms) 4000001 → more ≡ min (length new.terms + term_count (take (i + 1) mapped)) 4000001
+    counted_next fits more is =
+        let before = so_far.counted fits in
+        let count : term_count (take (i + 1) mapped) ≡ term_count done + length q.terms = ap term_count next ∙ term_count-more done q in
+        omega (arith, before, count, is)
+
+    -- a form that stays
+    pub IsTally-kept : (more : ℕ) → q ≡ form → has_large_coefficient form ≡ false → has_large_constant form ≡ false → more ≡ min (terms + length form.terms) 4000001 → IsTally states serial new (i + 1) changes overflows more
+    IsTally-kept more is small constant count = record {
+      small = small_next (ap has_large_coefficient is ∙ small);
+      overflow = overflow_next overflows (sym (ap (λ b. overflows || b) (ap has_large_constant is ∙ constant) ∙ or_false_right overflows));
+      applied = λ fits. applied_before fits ∙ ap (λ f. done ++ Some f ∷ drop (i + 1) states) (sym is) ∙ applied_next;
+      counted = λ fits. counted_next fits more (count ∙ ap (λ f. min (terms + length f.terms) 4000001) (sym is));
+      bounded = omega (arith, count);
+      within = so_far.within;
+    }
+
+    -- a form that is another one now; where the new form itself overflows, it may be any
+    pub IsTally-changed : (f : LinearForm) (more : ℕ) → has_large_coefficient q ≡ false → (overflows ≡ false → (f ≡ q) × (has_large_constant q ≡ false)) → more ≡ min (terms + length f.terms) 4000001 →
+        IsTally states serial new (i + 1) (changes ++ record { index = i; form = f } ∷ []) overflows more
+    IsTally-changed f more small is count = record {
+      small = small_next small;
+      overflow = overflow_next overflows (stays_by overflows (has_large_constant q) (λ fits. (is fits).1));
+      applied = λ fits.
+          fold-append with_change states changes (record { index = i; form = f } ∷ [])
+          ∙ ap (λ ss. set ss i (Some f)) (applied_before fits)
+          ∙ set-seam done (drop (i + 1) states) (Some form) (Some f) i length_done
+          ∙ ap (λ f. done ++ Some f ∷ drop (i + 1) states) (is fits).0
+          ∙ applied_next;
+      counted = λ fits. counted_next fits more (count ∙ ap (λ f. min (terms + length f.terms) 4000001) (is fits).0);
+      bounded = omega (arith, count);
+      within = All-append (λ change. change.index < length states) changes (record { index = i; form = f } ∷ []) so_far.within
+          (All-cons (λ change. change.index < length states) (record { index = i; form = f }) [] at (All-nil (λ change. change.index < length states)));
+    }
+
+    -- a form that overflows
+    pub IsTally-overflows : has_large_coefficient q ≡ false → (overflows ≡ false → has_large_constant q ≡ true) → IsTally states serial new (i + 1) changes true terms
+    IsTally-overflows small large = record {
+      small = small_next small;
+      overflow = overflow_next true (grows_by overflows (has_large_constant q) large);
+      applied = λ fits. absurd cc;
+      counted = λ fits. absurd cc;
+      bounded = so_far.bounded;
+      within = so_far.within;
+    }

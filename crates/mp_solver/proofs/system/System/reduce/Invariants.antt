@@ -1,0 +1,8 @@
+use Rattle.std.proofs.Common.{◌≡◌, Ok, take}
+use Rattle.std.specs.List.{fold}
+use Rattle.mp_solver.specs.Reduction.{independent_part, with_term_of}
+use Rattle.mp_solver.proofs.system.System.reduce.Given as goal
+
+abbrev pub invariant-terms : goal.invariant-terms
+invariant-terms l =
+    fold (with_term_of l.self.states) (Ok (independent_part l.self.states l.form)) (take l.term-index l.terms) ≡ Ok l.sum

@@ -1,0 +1,19 @@
+//! Unknowns and the linear equations between them.
+//!
+//! An unknown is independent, or it equals a linear form of independent ones. An equation, brought up to date,
+//! makes one of its unknowns dependent: the pivot, whose term has the greatest magnitude. Its new form then
+//! replaces it in every other form, so that the system is solved at any time (after Knuth, METAFONT: The
+//! Program, parts 28 and 29).
+#![tactic(auto)]
+
+mod change;
+mod equated;
+mod fresh;
+mod solution;
+mod system;
+#[cfg(test)]
+mod tests;
+
+pub use equated::Equated;
+pub use fresh::Fresh;
+pub use system::{Ready, System};

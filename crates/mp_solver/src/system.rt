@@ -1,0 +1,301 @@
+//! All unknowns, and what is known of them.
+
+ghost use Rattle.std.specs.Prelude.{◌≡◌, ◌≢◌, ◌↔◌, ◌+◌, ◌-◌, ◌<◌, ◌≤◌, ◌^◌, min, [], None, length, slice_set, option_copied, IfOk, OnErr, IsTrue};
+ghost use Rattle.mp_solver.specs.States.{form_of, name_of, fresh_of, IsSerial, IsOver};
+ghost use Rattle.mp_solver.specs.Reduction.{independent_part, reduce_of};
+ghost use Rattle.mp_solver.specs.Elimination.{forms_in, eliminate, pivot_of, solved_for};
+ghost use Rattle.mp_solver.specs.Solution.{IsSolution};
+ghost use Rattle.mp_solver.specs.Ready.{prepared, IsResidual};
+
+use crate::change::{Change, apply};
+use crate::solution::{Replacement, Solution, judged, pivot_of, solved_for, with_replaced};
+use crate::{Equated, Fresh};
+use mp_forms::{Form, FormFault};
+use mp_pool::Term;
+use mp_scaled::{Bytes, NoMemory};
+use std::alloc::Global;
+use std::marker::Model;
+use std::snapshot::Snapshot;
+
+/// Unknowns, numbered from 1, which contracts see as their states and their names.
+///
+/// A state is the form that a dependent unknown equals, and none where the unknown is independent. No
+/// dependent unknown occurs in any of these forms.
+#[derive(Drop)]
+pub struct System {
+    states: Vec<Option<Form>>,
+    names: Vec<Option<Bytes>>,
+    dependent: usize,
+    terms: usize,
+}
+
+impl Model for System {
+    ghost use Rattle.mp_solver.specs.States.{Unknowns};
+    ghost use Rattle.mp_solver.specs.Solved.{IsKept};
+
+    ghost Value = { Unknowns };
+
+    ghost view = { λ system. record { states = system.states.items; names = system.names.items } };
+
+    ghost invariant = { λ system. IsKept system.states.items system.names.items system.dependent system.terms };
+}
+
+/// An equation that was brought up to date, with all that it needs to be taken.
+///
+/// Contracts see it as the difference of its sides, brought up to date, and the system that it was made for.
+#[derive(Drop)]
+pub struct Ready {
+    residual: Snapshot<Form>,
+    made_for: Snapshot<System>,
+    answer: Equated,
+    changes: Vec<Change>,
+    terms: usize,
+}
+
+impl Model for Ready {
+    ghost use Rattle.mp_solver.specs.Ready.{Prepared, IsReady};
+
+    ghost Value = { Prepared };
+
+    ghost view = { λ ready. record { residual = ready.residual.value; made_for = ready.made_for.value } };
+
+    ghost invariant = { λ ready. IsReady ready.made_for.value.states ready.residual.value ready.answer ready.changes.items ready.terms };
+}
+
+/// The dependent forms may have so many terms.
+const TERM_LIMIT: usize = 4_000_000;
+
+/// So many unknowns can be made.
+const UNKNOWN_LIMIT: usize = 1_000_000;
+
+impl System {
+    /// A system without unknowns.
+    pub fn new(alloc: Global) -> System
+        ensures { result ≡ record { states = []; names = [] } }
+    {
+        System {
+            states: Vec::new(alloc),
+            names: Vec::new(alloc),
+            dependent: 0,
+            terms: 0,
+        }
+    }
+
+    /// Makes one more unknown, which is independent. Its serial is the number of unknowns that there are then.
+    pub fn fresh(&mut self, name: &[u8]) -> Result<Fresh, NoMemory>
+        ensures exact { IfOk result (λ answer. (answer, self.new) ≡ fresh_of self.old name.now) }
+        ensures limit { IfOk result (λ answer. (answer ≡ Fresh.Limit) ↔ (1000000 ≤ length self.old.states)) }
+        ensures no_memory { OnErr result (self.new ≡ self.old) }
+    {
+        if self.states.len() >= UNKNOWN_LIMIT {
+            return Ok(Fresh::Limit);
+        }
+        let name = Bytes::copy_of(*self.states.allocator(), name)?;
+        self.states.reserve(1)?;
+        self.names.push(Some(name))?;
+        self.states.push(None)?;
+        Ok(Fresh::Made(self.states.len() as u32))
+    }
+
+    /// Takes the name of an unknown away.
+    pub fn unname(&mut self, serial: u32)
+        requires { IsSerial self.old.states serial }
+        ensures { self.new ≡ record self.old { names = slice_set self.old.names (serial - 1) None } }
+    {
+        self.names[serial as usize - 1] = None;
+    }
+
+    /// The name that an unknown was made with, and none where it was taken away.
+    pub fn name(&self, serial: u32) -> Option<&[u8]>
+        requires { IsSerial self.now.states serial }
+        ensures { option_copied result ≡ name_of self.now serial }
+    {
+        match &self.names[serial as usize - 1] {
+            Some(name) => Some(name.as_slice()),
+            None => None,
+        }
+    }
+
+    /// The number of unknowns and of accepted equations, each of which made an unknown dependent.
+    pub fn changes(&self) -> u64
+        ensures { result ≡ length self.now.states + length (forms_in self.now.states) }
+    {
+        self.states.len() as u64 + self.dependent as u64
+    }
+
+    /// Whether all unknowns of a form are among these.
+    pub fn has_unknowns_of(&self, form: &Form) -> bool
+        ensures { IsTrue result ↔ IsOver self.now.states form.now }
+    {
+        form.terms().iter().all(|t| 1 <= t.serial && t.serial as usize <= self.states.len())
+    }
+
+    /// What an unknown equals, and none where it is independent.
+    pub fn form_of(&self, serial: u32) -> Option<&Form>
+        requires { IsSerial self.now.states serial }
+        ensures { option_copied result ≡ form_of self.now.states serial }
+    {
+        self.states[serial as usize - 1].as_ref()
+    }
+
+    /// A form brought up to date, as a sum in which no dependent unknown occurs.
+    ///
+    /// Its terms of independent unknowns come first; then for each other term, in order, its coefficient times
+    /// the form that the unknown equals is added. The first of these sums that is refused is the answer.
+    pub fn reduce(&self, alloc: Global, form: &Form) -> Result<Result<Form, FormFault>, NoMemory>
+        requires { IsOver self.now.states form.now }
+        ensures { IfOk result (λ answer. answer ≡ reduce_of self.now.states form.now) }
+    {
+        let mut sum = self.independent_part(alloc, form)?;
+        let terms = form.terms();
+        'terms: for term in terms {
+            if let Some(equal) = self.form_of(term.serial) {
+                match sum.add_times(alloc, term.coefficient, equal)? {
+                    Ok(more) => sum = more,
+                    Err(fault) => return Ok(Err(fault)),
+                }
+            }
+        }
+        Ok(Ok(sum))
+    }
+
+    fn independent_part(&self, alloc: Global, form: &Form) -> Result<Form, NoMemory>
+        requires { IsOver self.now.states form.now }
+        ensures { IfOk result (λ part. part ≡ independent_part self.now.states form.now) }
+    {
+        let terms = form.terms();
+        let mut independent = Vec::with_capacity(alloc, terms.len())?;
+        'terms: for term in terms {
+            if self.form_of(term.serial).is_none() {
+                independent.push(*term)?;
+            }
+        }
+        Ok(Form::of_terms(form.constant(), independent))
+    }
+
+    /// Takes an equation, and says what it comes to. Only an accepted one changes the system.
+    pub fn equate(&mut self, ready: Ready) -> Equated
+        requires { ready.made_for ≡ self.old }
+        ensures exact { (result, self.new.states) ≡ eliminate self.old.states ready.residual }
+        ensures names { self.new.names ≡ self.old.names }
+    {
+        let Ready {
+            residual: _,
+            made_for: _,
+            answer,
+            changes,
+            terms,
+        } = ready;
+        apply(&mut self.states, changes);
+        if let Equated::Accepted = answer {
+            self.dependent += 1;
+            self.terms = terms;
+        }
+        answer
+    }
+
+    /// Brings an equation up to date, given as its left side minus its right, and makes all that it needs.
+    ///
+    /// The answer is for this system as it stands, which it leaves as it is. A difference that cannot be
+    /// brought up to date is refused.
+    pub fn ready(&mut self, form: &Form) -> Result<Result<Ready, FormFault>, NoMemory>
+        requires { IsOver self.old.states form.now }
+        ensures exact { IfOk result (λ answer. answer ≡ prepared self.old (reduce_of self.old.states form.now)) }
+        ensures same { self.new ≡ self.old }
+    {
+        let alloc = *self.states.allocator();
+        match self.reduce(alloc, form)? {
+            Ok(residual) => Ok(Ok(self.eliminated(alloc, &residual)?)),
+            Err(fault) => Ok(Err(fault)),
+        }
+    }
+
+    /// What an equation comes to, whose difference is up to date.
+    fn eliminated(&self, alloc: Global, residual: &Form) -> Result<Ready, NoMemory>
+        requires { IsResidual self.now.states residual.now }
+        ensures { IfOk result (λ ready. ready ≡ record { residual = residual.now; made_for = self.now }) }
+    {
+        match pivot_of(residual.terms()) {
+            Some(pivot) => {
+                let solution = solved_for(alloc, pivot, residual)?;
+                self.substituted(alloc, residual, pivot, solution)
+            }
+            None => Ok(self.refused(alloc, residual, judged(residual.constant()))),
+        }
+    }
+
+    /// The forms in which the pivot's new form replaces it, and the answer that they give.
+    fn substituted(
+        &self,
+        alloc: Global,
+        residual: &Form,
+        pivot: Term,
+        solution: Solution,
+    ) -> Result<Ready, NoMemory>
+        requires residual { IsResidual self.now.states residual.now }
+        requires pivot { pivot_of residual.now.terms ≡ Some pivot }
+        requires solution { IsSolution solution (solved_for pivot residual.now) }
+        ensures { IfOk result (λ ready. ready ≡ record { residual = residual.now; made_for = self.now }) }
+    {
+        let mut changes = Vec::new(alloc);
+        let mut overflows = solution.overflows;
+        let mut terms = limited(0, solution.form.terms().len());
+        'states: for (index, state) in self.states.iter().enumerate() {
+            if let Some(form) = state {
+                match with_replaced(alloc, pivot.serial, &solution.form, form)? {
+                    Replacement::Kept => terms = limited(terms, form.terms().len()),
+                    Replacement::Changed(form) => {
+                        terms = limited(terms, form.terms().len());
+                        changes.push(Change { index, form })?;
+                    }
+                    Replacement::Overflows => overflows = true,
+                    Replacement::TooLarge => {
+                        return Ok(self.refused(alloc, residual, Equated::CoefficientTooLarge));
+                    }
+                }
+            }
+        }
+        if overflows {
+            return Ok(self.refused(alloc, residual, Equated::Overflow));
+        }
+        if terms > TERM_LIMIT {
+            return Ok(self.refused(alloc, residual, Equated::Limit));
+        }
+        changes.push(Change {
+            index: pivot.serial as usize - 1,
+            form: solution.form,
+        })?;
+        Ok(Ready {
+            residual: Snapshot::of(residual),
+            made_for: Snapshot::of(self),
+            answer: Equated::Accepted,
+            changes,
+            terms,
+        })
+    }
+
+    /// An equation that is not accepted.
+    fn refused(&self, alloc: Global, residual: &Form, answer: Equated) -> Ready
+        requires residual { IsResidual self.now.states residual.now }
+        requires answer { (answer, self.now.states) ≡ eliminate self.now.states residual.now }
+        requires not_accepted { answer ≢ Equated.Accepted }
+        ensures { result ≡ record { residual = residual.now; made_for = self.now } }
+    {
+        Ready {
+            residual: Snapshot::of(residual),
+            made_for: Snapshot::of(self),
+            answer,
+            changes: Vec::new(alloc),
+            terms: 0,
+        }
+    }
+}
+
+/// A sum of numbers of terms, but no more than one above the limit.
+fn limited(terms: usize, more: usize) -> usize
+    requires small { terms ≤ 4000001 }
+    requires fits { more < 2 ^ 63 }
+    ensures { result ≡ min (terms + more) 4000001 }
+{
+    (terms + more).min(TERM_LIMIT + 1)
+}

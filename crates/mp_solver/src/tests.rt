@@ -1,0 +1,160 @@
+use crate::{Equated, Fresh, System};
+use mp_forms::Form;
+use std::alloc::Global;
+use std::test::Fail;
+
+/// A constant, and serials with their coefficients.
+type Plain = (i32, &'static [(u32, i64)]);
+
+/// 1 as a coefficient.
+const ONE: i64 = 1 << 28;
+
+/// The form with a constant and terms, made by the calls themselves.
+fn form_of(alloc: Global, plain: Plain) -> Result<Form, Fail> {
+    let (constant, terms) = plain;
+    let mut form = Form::constant_of(alloc, constant);
+    for (serial, coefficient) in terms {
+        let unknown = Form::unknown(alloc, *serial)?;
+        if coefficient.unsigned_abs() < 1 << 44 {
+            form = form.add_times(alloc, *coefficient, &unknown)??;
+        }
+    }
+    Ok(form)
+}
+
+fn system_of(alloc: Global, unknowns: u32) -> Result<System, Fail> {
+    let mut system = System::new(alloc);
+    for _ in 0..unknowns {
+        system.fresh(b"u")?;
+    }
+    Ok(system)
+}
+
+/// What the equation comes to; none where it names another unknown.
+fn equated(system: &mut System, form: &Form) -> Result<Option<Equated>, Fail> {
+    if !system.has_unknowns_of(form) {
+        return Ok(None);
+    }
+    let ready = system.ready(form)??;
+    Ok(Some(system.equate(ready)))
+}
+
+fn is_form(form: &Form, plain: Plain) -> bool {
+    let (constant, terms) = plain;
+    form.constant() == constant
+        && form.terms().len() == terms.len()
+        && form.terms().iter().zip(terms).all(|(term, want)| term.serial == want.0
+            && term.coefficient == want.1)
+}
+
+/// Whether the form, brought up to date, is that one.
+fn reduces_to(alloc: Global, system: &System, form: Plain, want: Plain) -> Result<bool, Fail> {
+    let form = form_of(alloc, form)?;
+    if !system.has_unknowns_of(&form) {
+        return Ok(false);
+    }
+    Ok(is_form(&system.reduce(alloc, &form)??, want))
+}
+
+/// A system of two unknowns after these equations; none where one comes to something else.
+fn after(alloc: Global, equations: &[(Plain, Equated)]) -> Result<Option<System>, Fail> {
+    let mut system = system_of(alloc, 2)?;
+    for (form, want) in equations {
+        let form = form_of(alloc, *form)?;
+        if equated(&mut system, &form)? != Some(*want) {
+            return Ok(None);
+        }
+    }
+    Ok(Some(system))
+}
+
+/// Whether the equations come to what is said, and the forms are brought up to date to those.
+fn solves(
+    alloc: Global,
+    equations: &[(Plain, Equated)],
+    reduced: &[(Plain, Plain)],
+) -> Result<bool, Fail> {
+    let Some(system) = after(alloc, equations)? else {
+        return Ok(false);
+    };
+    for (form, want) in reduced {
+        if !reduces_to(alloc, &system, *form, *want)? {
+            return Ok(false);
+        }
+    }
+    Ok(true)
+}
+
+/// The first unknown, and the second.
+const X: Plain = (0, &[(1, ONE)]);
+
+const Y: Plain = (0, &[(2, ONE)]);
+
+#[test]
+fn equations(rt: HostRuntime) -> Result<(), Fail> {
+    let alloc = rt.alloc();
+    // x+y=3; x-y=1
+    let sum: (Plain, Equated) = ((-196608, &[(1, ONE), (2, ONE)]), Equated::Accepted);
+    let difference: (Plain, Equated) = ((-65536, &[(1, ONE), (2, -ONE)]), Equated::Accepted);
+    assert!(rt; solves(alloc, &[sum], &[(Y, (196608, &[(1, -ONE)]))])?);
+    assert!(rt;
+        solves(
+            alloc,
+            &[sum, difference],
+            &[(X, (131072, &[])), (Y, (65536, &[]))]
+        )?
+    );
+    // 2x+y=3
+    let twice: (Plain, Equated) = ((-196608, &[(1, 2 * ONE), (2, ONE)]), Equated::Accepted);
+    assert!(rt; solves(alloc, &[twice], &[(X, (98304, &[(2, -ONE / 2)]))])?);
+    Ok(())
+}
+
+#[test]
+fn residuals(rt: HostRuntime) -> Result<(), Fail> {
+    let alloc = rt.alloc();
+    // x=1; x=1.00098; x=1.00099
+    let one: (Plain, Equated) = ((-65536, &[(1, ONE)]), Equated::Accepted);
+    let near: (Plain, Equated) = ((-65600, &[(1, ONE)]), Equated::Redundant(-64));
+    let off: (Plain, Equated) = ((-65601, &[(1, ONE)]), Equated::Inconsistent(-65));
+    assert!(rt; solves(alloc, &[one, near, off], &[(X, (65536, &[]))])?);
+    // x=x
+    let same: (Plain, Equated) = ((0, &[]), Equated::Redundant(0));
+    assert!(rt; solves(alloc, &[same], &[(X, X)])?);
+    // y=x; x/200000=1
+    let equal: (Plain, Equated) = ((0, &[(1, ONE), (2, -ONE)]), Equated::Accepted);
+    let large: (Plain, Equated) = ((-65536, &[(1, 1343)]), Equated::Overflow);
+    assert!(rt; solves(alloc, &[equal, large], &[(X, X), (Y, X)])?);
+    Ok(())
+}
+
+#[test]
+fn names(rt: HostRuntime) -> Result<(), Fail> {
+    let mut system = System::new(rt.alloc());
+    let made = system.fresh(b"x")?;
+    assert_eq!(rt; made, Fresh::Made(1));
+    Ok(())
+}
+
+/// The difference of the last unknown and the one before it is 1 unit.
+fn step_of(alloc: Global, serial: u32) -> Result<Form, Fail> {
+    let last = Form::unknown(alloc, serial)?;
+    let before = Form::unknown(alloc, serial.saturating_sub(1))?;
+    let form = Form::constant_of(alloc, -1).add_times(alloc, ONE, &last)??;
+    Ok(form.add_times(alloc, -ONE, &before)??)
+}
+
+#[test]
+fn a_chain_of_2000_equations(rt: HostRuntime) -> Result<(), Fail> {
+    let alloc = rt.alloc();
+    let mut system = system_of(alloc, 2001)?;
+    for serial in 2..=2001 {
+        let form = step_of(alloc, serial)?;
+        assert_eq!(rt; equated(&mut system, &form)?, Some(Equated::Accepted));
+    }
+    let first = form_of(alloc, (0, &[(1, ONE)]))?;
+    assert_eq!(rt; equated(&mut system, &first)?, Some(Equated::Accepted));
+    assert_eq!(rt; system.changes(), 4002);
+    assert!(rt; reduces_to(alloc, &system, (0, &[(2001, ONE)]), (2000, &[]))?);
+    Ok(())
+}
