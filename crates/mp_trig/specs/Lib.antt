@@ -1,0 +1,4 @@
+pub mod Roots
+pub mod Logs
+pub mod Sines
+pub mod Directions
