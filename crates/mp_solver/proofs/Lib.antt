@@ -8,3 +8,5 @@ pub mod SubstitutionLemmas
 pub mod AnswerLemmas
 pub mod StepLemmas
 pub mod Examples
+pub mod JudgedLemmas
+pub mod SettledLemmas

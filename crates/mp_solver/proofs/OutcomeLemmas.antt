@@ -54,6 +54,12 @@ module _ (states : States) (residual : LinearForm) where
   outcome : Outcome (eliminate states residual)
   outcome = by_pivot (pivot_of residual.terms) refl
 
+-- an equation that is not accepted changes nothing
+pub eliminate-refused : (states : States) (residual : LinearForm) (answer : Equated) (new : States) → (answer, new) ≡ eliminate states residual → answer ≢ Accepted → new ≡ states
+eliminate-refused states residual answer new exact refused =
+    let P : Equated × States → Type 0 = λ e. Outcome states residual e in
+    elim (subst P (sym exact) (outcome states residual)) [ inl left ↦ left.1 | inr taken ↦ absurd (refused taken.0) ]
+
 module _ (made_for states : States) (same : made_for ≡ states) (residual : LinearForm) (answer : Equated) (changes : List Change) (terms : ℕ) (ready : IsReady made_for residual answer changes terms) (new : States) (is : new ≡ fold with_change states changes) where
   here : IsReady states residual answer changes terms
   here = subst (λ s. IsReady s residual answer changes terms) same ready

@@ -1,6 +1,6 @@
 -- One equation, in a form that was brought up to date and is to be 0: which unknown it makes dependent, and on what.
 -- After Knuth, METAFONT: The Program, part 29 (linear equations); the rule at a tie, the threshold and the refusals are this project's own.
-use Rattle.std.specs.Prelude.{ℕ, ◌-◌, ◌^◌, ℤ, pos, neg_ℤ, ◌+ℤ◌, unsigned_abs, List, [], ◌∷◌, Option, Some, None, Bool, not, cond, nat_eq, nat_lt, nat_le, map, filter, find, filter_map, option_map, sum_by, length, slice_set}
+use Rattle.std.specs.Prelude.{◌≡◌, ◌≤◌, ◌<◌, ℕ, ◌-◌, ◌^◌, ℤ, pos, neg_ℤ, ◌+ℤ◌, unsigned_abs, List, [], ◌∷◌, Option, Some, None, Bool, not, cond, nat_eq, nat_lt, nat_le, map, filter, find, filter_map, option_map, sum_by, length, slice_set}
 use Rattle.std.specs.List.{list_any, best_of}
 use Rattle.mp_pool.specs.declared.Term.{Term}
 use Rattle.mp_forms.specs.Ratios.{ratio_times, times_fraction}
@@ -86,3 +86,11 @@ eliminate_by states residual (Some pivot) = within_limits states (solved_states 
 -- the answer to an equation, and the states after it
 abbrev pub eliminate : States → LinearForm → Equated × States
 eliminate states residual = eliminate_by states residual (pivot_of residual.terms)
+
+-- an equation that holds already, but for this difference
+abbrev pub IsRedundant : LinearForm → ℤ → Type 0
+IsRedundant residual r = (residual.terms ≡ []) × (residual.constant ≡ r) × (unsigned_abs r ≤ 64)
+
+-- an equation that is off by this difference
+abbrev pub IsInconsistent : LinearForm → ℤ → Type 0
+IsInconsistent residual r = (residual.terms ≡ []) × (residual.constant ≡ r) × (64 < unsigned_abs r)

@@ -5,3 +5,4 @@ pub mod Solution
 pub mod Replay
 pub mod Ready
 pub mod Solved
+pub mod Known

@@ -10,10 +10,12 @@ mod change;
 mod equated;
 mod fresh;
 mod solution;
+mod state;
 mod system;
 #[cfg(test)]
 mod tests;
 
 pub use equated::Equated;
 pub use fresh::Fresh;
+pub use state::State;
 pub use system::{Ready, System};

@@ -1,15 +1,17 @@
 //! All unknowns, and what is known of them.
 
-ghost use Rattle.std.specs.Prelude.{◌≡◌, ◌≢◌, ◌↔◌, ◌+◌, ◌-◌, ◌<◌, ◌≤◌, ◌^◌, min, [], None, length, slice_set, option_copied, IfOk, OnErr, IsTrue};
+ghost use Rattle.std.specs.Prelude.{ℤ, ◌≡◌, ◌≢◌, ◌↔◌, ◌+◌, ◌-◌, ◌<◌, ◌≤◌, ◌^◌, min, [], None, length, slice_set, option_copied, IfOk, OnErr, IsTrue};
 ghost use Rattle.mp_solver.specs.States.{form_of, name_of, fresh_of, IsSerial, IsOver};
+ghost use Rattle.mp_solver.specs.Known.{form_in};
 ghost use Rattle.mp_solver.specs.Reduction.{independent_part, reduce_of};
-ghost use Rattle.mp_solver.specs.Elimination.{forms_in, eliminate, pivot_of, solved_for};
+ghost use Rattle.mp_solver.specs.Elimination.{forms_in, eliminate, pivot_of, solved_for, IsRedundant, IsInconsistent};
+ghost use Rattle.mp_solver.specs.Solved.{IsReduced};
 ghost use Rattle.mp_solver.specs.Solution.{IsSolution};
 ghost use Rattle.mp_solver.specs.Ready.{prepared, IsResidual};
 
 use crate::change::{Change, apply};
 use crate::solution::{Replacement, Solution, judged, pivot_of, solved_for, with_replaced};
-use crate::{Equated, Fresh};
+use crate::{Equated, Fresh, State};
 use mp_forms::{Form, FormFault};
 use mp_pool::Term;
 use mp_scaled::{Bytes, NoMemory};
@@ -130,6 +132,17 @@ impl System {
         form.terms().iter().all(|t| 1 <= t.serial && t.serial as usize <= self.states.len())
     }
 
+    /// What is known of an unknown.
+    pub fn state(&self, serial: u32) -> State<'_>
+        requires { IsSerial self.now.states serial }
+        ensures { form_in result ≡ form_of self.now.states serial }
+    {
+        match self.form_of(serial) {
+            Some(form) => State::Dependent(form),
+            None => State::Independent,
+        }
+    }
+
     /// What an unknown equals, and none where it is independent.
     pub fn form_of(&self, serial: u32) -> Option<&Form>
         requires { IsSerial self.now.states serial }
@@ -141,8 +154,18 @@ impl System {
     /// A form brought up to date, as a sum in which no dependent unknown occurs.
     ///
     /// Its terms of independent unknowns come first; then for each other term, in order, its coefficient times
-    /// the form that the unknown equals is added. The first of these sums that is refused is the answer.
+    /// the form that the unknown equals is added. The first of these sums that is refused is the answer. A form
+    /// without dependent unknowns stays as it is.
+    #[tactic(auto, using(crate::proofs::SettledLemmas::reduce_of_reduced))]
     pub fn reduce(&self, alloc: Global, form: &Form) -> Result<Result<Form, FormFault>, NoMemory>
+        requires { IsOver self.now.states form.now }
+        ensures exact { IfOk result (λ answer. answer ≡ reduce_of self.now.states form.now) }
+        ensures settled { IsReduced self.now.states form.now → IfOk result (λ answer. answer ≡ Ok form.now) }
+    {
+        self.up_to_date(alloc, form)
+    }
+
+    fn up_to_date(&self, alloc: Global, form: &Form) -> Result<Result<Form, FormFault>, NoMemory>
         requires { IsOver self.now.states form.now }
         ensures { IfOk result (λ answer. answer ≡ reduce_of self.now.states form.now) }
     {
@@ -178,6 +201,17 @@ impl System {
         requires { ready.made_for ≡ self.old }
         ensures exact { (result, self.new.states) ≡ eliminate self.old.states ready.residual }
         ensures names { self.new.names ≡ self.old.names }
+        ensures redundant { (r : ℤ) → (result ≡ Equated.Redundant r) ↔ IsRedundant ready.residual r }
+        ensures inconsistent { (r : ℤ) → (result ≡ Equated.Inconsistent r) ↔ IsInconsistent ready.residual r }
+        ensures refused { result ≢ Equated.Accepted → self.new ≡ self.old }
+    {
+        self.take(ready)
+    }
+
+    fn take(&mut self, ready: Ready) -> Equated
+        requires { ready.made_for ≡ self.old }
+        ensures exact { (result, self.new.states) ≡ eliminate self.old.states ready.residual }
+        ensures names { self.new.names ≡ self.old.names }
     {
         let Ready {
             residual: _,
@@ -204,7 +238,7 @@ impl System {
         ensures same { self.new ≡ self.old }
     {
         let alloc = *self.states.allocator();
-        match self.reduce(alloc, form)? {
+        match self.up_to_date(alloc, form)? {
             Ok(residual) => Ok(Ok(self.eliminated(alloc, &residual)?)),
             Err(fault) => Ok(Err(fault)),
         }

@@ -1,20 +1,12 @@
-use Rattle.std.proofs.Common.{sym, ap, ◌∙◌, arith}
-use Rattle.mp_solver.proofs.StateLemmas.{length-forms_in}
-use Rattle.mp_solver.proofs.OutcomeLemmas.{equate-refused, equate-accepted}
+use Rattle.mp_solver.proofs.JudgedLemmas.{same_unknowns, redundant-where, inconsistent-where}
+use Rattle.mp_solver.proofs.OutcomeLemmas.{eliminate-refused}
 use Rattle.mp_solver.proofs.system.System.equate.Goals as goal
 
-pub overflow_add-self : goal.overflow_add-self
-overflow_add-self c =
-    omega (arith, c.self.invariant.states_length, c.self.invariant.dependent_count, length-forms_in c.self.inside.states.items)
+pub returns-clause-redundant : goal.returns-clause-redundant
+returns-clause-redundant c = λ r. redundant-where _ _ r _ _ c.take.ensures.exact
 
-pub invariant_of-self : goal.invariant_of-self
-invariant_of-self c =
-    let same = ap (λ r. r.made_for.states) c.ready.view_is ∙ ap (λ u. u.states) c.requires ∙ sym (ap (λ u. u.states) c.self.view_is) in
-    equate-accepted _ c.self.inside.states.items same _ c.ready.inside.answer c.ready.inside.changes.items c.ready.inside.terms c.ready.invariant c.apply.new.states.items c.apply.ensures
-    c.self.inside.dependent c.self.inside.terms c.in-Accepted.is c.self.invariant
+pub returns-clause-inconsistent : goal.returns-clause-inconsistent
+returns-clause-inconsistent c = λ r. inconsistent-where _ _ r _ _ c.take.ensures.exact
 
-pub invariant_of-self-in_default : goal.invariant_of-self-in_default
-invariant_of-self-in_default c =
-    let same = ap (λ r. r.made_for.states) c.ready.view_is ∙ ap (λ u. u.states) c.requires ∙ sym (ap (λ u. u.states) c.self.view_is) in
-    rw (equate-refused _ c.self.inside.states.items same _ c.ready.inside.answer c.ready.inside.changes.items c.ready.inside.terms c.ready.invariant c.apply.new.states.items c.apply.ensures c.in_default.not-Accepted)
-    c.self.invariant
+pub returns-clause-refused : goal.returns-clause-refused
+returns-clause-refused c = λ refused. same_unknowns _ _ (eliminate-refused c.args.self.now.states c.args.ready.residual c.take.result c.take.new.self.states c.take.ensures.exact refused) c.take.ensures.names

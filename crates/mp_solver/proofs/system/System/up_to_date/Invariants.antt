@@ -1,7 +1,7 @@
 use Rattle.std.proofs.Common.{◌≡◌, Ok, take}
 use Rattle.std.specs.List.{fold}
 use Rattle.mp_solver.specs.Reduction.{independent_part, with_term_of}
-use Rattle.mp_solver.proofs.system.System.reduce.Given as goal
+use Rattle.mp_solver.proofs.system.System.up_to_date.Given as goal
 
 abbrev pub invariant-terms : goal.invariant-terms
 invariant-terms l =

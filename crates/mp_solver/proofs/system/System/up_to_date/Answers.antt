@@ -6,8 +6,8 @@ use Rattle.mp_forms.specs.declared.fault.FormFault.{FormFault}
 use Rattle.mp_forms.specs.Forms.{LinearForm}
 use Rattle.mp_solver.specs.Reduction.{independent_part, with_term_of}
 use Rattle.mp_solver.proofs.ReductionLemmas.{fold-independent, fold-dependent, fold-refused_at}
-use Rattle.mp_solver.proofs.system.System.reduce.Goals as goal
-use Rattle.mp_solver.proofs.system.System.reduce.Goals.{in-Some+in_ok-more+in-Ok, in_default}
+use Rattle.mp_solver.proofs.system.System.up_to_date.Goals as goal
+use Rattle.mp_solver.proofs.system.System.up_to_date.Goals.{in-Some+in_ok-more+in-Ok, in_default}
 
 abbrev none : Term
 none = record { serial = 0; coefficient = pos 0 }
