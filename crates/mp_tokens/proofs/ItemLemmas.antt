@@ -6,12 +6,13 @@ use Rattle.std.proofs.lemmas.Bool.{cond_both}
 use Rattle.std.proofs.lemmas.List.Quantifiers.{position-Some}
 use Rattle.std.proofs.lemmas.List.Elements.{All-from_recursion}
 use Rattle.std.proofs.lemmas.List.{append-nil, length-map}
-use Rattle.mp_tokens.specs.Names.{Names, number_in, with_name}
-use Rattle.mp_tokens.proofs.NameLemmas.{number_in-with_name, with_name-has}
+use Rattle.mp_symbols.specs.Names.{Names, number_in, with_name}
+use Rattle.mp_symbols.specs.Tables.{Table}
+use Rattle.mp_symbols.proofs.NameLemmas.{number_in-with_name, with_name-has}
 use Rattle.mp_tokens.proofs.LexemeLemmas.{length-line_items}
 use Rattle.mp_tokens.specs.Lines.{lines, is_line_end, begins_with, before_lines}
 use Rattle.mp_tokens.specs.Reading.{Took}
-use Rattle.mp_tokens.specs.Items.{Item, Symbol, Number, Quoted, Bad, LineEnd, line_items, lines_items, file_items, with_item, with_items, token_in, tokens_in, IsNumbered, GainsSome}
+use Rattle.mp_tokens.specs.Items.{Item, Symbol, Number, Quoted, Bad, LineEnd, line_items, lines_items, file_items, with_item, with_items, with_names_of, token_in, tokens_in, IsNumbered, GainsSome}
 use Rattle.mp_tokens.specs.declared.token.Token.{Token}
 use Rattle.mp_tokens.specs.declared.token.Token.TheVariants as token
 
@@ -46,33 +47,36 @@ module _ {M : Type 0} where
   with_items-append first names [] ys = refl
   with_items-append first names (x ∷ xs) ys = with_items-append first (with_item first names x) xs ys
 
+  with_names_of-append : (first : M) (table : Table M) (xs ys : List Item) → with_names_of first table (xs ++ ys) ≡ with_names_of first (with_names_of first table xs) ys
+  with_names_of-append first table xs ys = ap (λ names. record table { names = names }) (with_items-append first table.names xs ys)
+
   -- how far reading has come: what is left of the items
-  pub record Reading (first : M) (old new : Names M) (before after : List Token) (items left : List Item) : Type 0 where
+  pub record Reading (first : M) (old new : Table M) (before after : List Token) (items left : List Item) : Type 0 where
     pub done : List Item
     pub split : items ≡ done ++ left
     pub took : Took first old new before after done
 
-  pub Reading-start : (first : M) (names : Names M) (tokens : List Token) (items : List Item) → Reading first names names tokens tokens items items
+  pub Reading-start : (first : M) (names : Table M) (tokens : List Token) (items : List Item) → Reading first names names tokens tokens items items
   Reading-start first names tokens items =
       record { done = []; split = refl; took = record { names = refl; tokens = sym (append-nil tokens) } }
 
-  pub Reading-more : (first : M) (old mid new : Names M) (before between after : List Token) (items ahead xs left : List Item)
+  pub Reading-more : (first : M) (old mid new : Table M) (before between after : List Token) (items ahead xs left : List Item)
       → Reading first old mid before between items ahead → ahead ≡ xs ++ left → Took first mid new between after xs → Reading first old new before after items left
   Reading-more first old mid new before between after items ahead xs left reading parts took =
       let done = reading.done in
-      let names : new ≡ with_items first old (done ++ xs) =
-      took.names ∙ ap (λ t. with_items first t xs) reading.took.names ∙ sym (with_items-append first old done xs) in
-      let tokens : tokens_in mid done ++ tokens_in new xs ≡ tokens_in new (done ++ xs) =
-      (λ j. tokens_in (reading.took.names j) done ++ tokens_in (names j) xs)
-      ∙ sym (tokens_in-append first old done xs)
-      ∙ ap (λ t. tokens_in t (done ++ xs)) (sym names) in
+      let names : new ≡ with_names_of first old (done ++ xs) =
+      took.names ∙ ap (λ t. with_names_of first t xs) reading.took.names ∙ sym (with_names_of-append first old done xs) in
+      let tokens : tokens_in mid.names done ++ tokens_in new.names xs ≡ tokens_in new.names (done ++ xs) =
+      (λ j. tokens_in (reading.took.names j).names done ++ tokens_in (names j).names xs)
+      ∙ sym (tokens_in-append first old.names done xs)
+      ∙ ap (λ t. tokens_in t.names (done ++ xs)) (sym names) in
       record {
         done = done ++ xs;
         split = reading.split ∙ ap (λ l. done ++ l) parts ∙ sym (append_assoc done xs left);
         took = record {
           names = names;
-          tokens = took.tokens ∙ ap (λ l. l ++ tokens_in new xs) reading.took.tokens
-              ∙ append_assoc before (tokens_in mid done) (tokens_in new xs) ∙ ap (λ l. before ++ l) tokens;
+          tokens = took.tokens ∙ ap (λ l. l ++ tokens_in new.names xs) reading.took.tokens
+              ∙ append_assoc before (tokens_in mid.names done) (tokens_in new.names xs) ∙ ap (λ l. before ++ l) tokens;
         };
       }
 
@@ -90,13 +94,13 @@ module _ {M : Type 0} where
   numbered first names (Bad cause ∷ items) = (tt, numbered first names items)
   numbered first names (LineEnd n ∷ items) = (tt, numbered first names items)
 
-  pub AllNumbered : (first : M) (old new : Names M) (tokens : List Token) (items : List Item) → new ≡ with_items first old items → tokens ≡ tokens_in new items → All (IsNumbered new) tokens
+  pub AllNumbered : (first : M) (old new : Table M) (tokens : List Token) (items : List Item) → new ≡ with_names_of first old items → tokens ≡ tokens_in new.names items → All (IsNumbered new.names) tokens
   AllNumbered first old new tokens items e f =
-      subst (λ l. All (IsNumbered new) l) (sym f)
-      (subst (λ t. All (IsNumbered t) (tokens_in t items)) (sym e) (All-from_recursion _ _ (numbered first old items)))
+      subst (λ l. All (IsNumbered new.names) l) (sym f)
+      (subst (λ t. All (IsNumbered t.names) (tokens_in t.names items)) (sym e) (All-from_recursion _ _ (numbered first old.names items)))
 
   -- a part of what is left, and what was done before
-  pub GainsSome-more : (first : M) (old mid new : Names M) (before between : List Token) (items ahead xs left : List Item)
+  pub GainsSome-more : (first : M) (old mid new : Table M) (before between : List Token) (items ahead xs left : List Item)
       → Reading first old mid before between items ahead → ahead ≡ xs ++ left → GainsSome first mid new xs → GainsSome first old new items
   GainsSome-more first old mid new before between items ahead xs left reading parts gains =
       record {
@@ -105,11 +109,11 @@ module _ {M : Type 0} where
         split = reading.split ∙ ap (λ l. reading.done ++ l) parts ∙ ap (λ l. reading.done ++ (l ++ left)) gains.split
             ∙ ap (λ l. reading.done ++ l) (append_assoc gains.done gains.left left)
             ∙ sym (append_assoc reading.done gains.done (gains.left ++ left));
-        names = gains.names ∙ ap (λ t. with_items first t gains.done) reading.took.names
-            ∙ sym (with_items-append first old reading.done gains.done);
+        names = gains.names ∙ ap (λ t. with_names_of first t gains.done) reading.took.names
+            ∙ sym (with_names_of-append first old reading.done gains.done);
       }
 
-  pub GainsSome-all : (first : M) (old new : Names M) (items : List Item) → new ≡ with_items first old items → GainsSome first old new items
+  pub GainsSome-all : (first : M) (old new : Table M) (items : List Item) → new ≡ with_names_of first old items → GainsSome first old new items
   GainsSome-all first old new items names = record { done = items; left = []; split = sym (append-nil items); names = names }
 
 -- how many bytes lines have, each with an end
@@ -149,16 +153,16 @@ lines_items-first number next bytes line rest e parts =
     ap (lines_items (number + 1)) parts ∙ ap (λ n. line_items line ++ (LineEnd n ∷ lines_items (n + 1) (lines rest))) (sym e)
 
 module _ {M : Type 0} where
-  pub Took-line_end : (first : M) (names : Names M) (before after : List Token) (n : ℕ) → after ≡ before ++ token.LineEnd n ∷ [] → Took first names names before after (LineEnd n ∷ [])
+  pub Took-line_end : (first : M) (names : Table M) (before after : List Token) (n : ℕ) → after ≡ before ++ token.LineEnd n ∷ [] → Took first names names before after (LineEnd n ∷ [])
   Took-line_end first names before after n e = record { names = refl; tokens = e }
 
-  pub GainsSome-none : (first : M) (names : Names M) (items : List Item) → GainsSome first names names items
+  pub GainsSome-none : (first : M) (names : Table M) (items : List Item) → GainsSome first names names items
   GainsSome-none first names items = record { done = []; left = items; split = refl; names = refl }
 
-  pub length-Took : (first : M) (old new : Names M) (tokens : List Token) (items : List Item) → Took first old new [] tokens items → length tokens ≡ length items
-  length-Took first old new tokens items took = ap length took.tokens ∙ length-map items (token_in new)
+  pub length-Took : (first : M) (old new : Table M) (tokens : List Token) (items : List Item) → Took first old new [] tokens items → length tokens ≡ length items
+  length-Took first old new tokens items took = ap length took.tokens ∙ length-map items (token_in new.names)
 
   -- no more tokens than items so far
-  pub length-Reading : (first : M) (old new : Names M) (tokens : List Token) (items left : List Item) → Reading first old new [] tokens items left → length tokens ≤ length items
+  pub length-Reading : (first : M) (old new : Table M) (tokens : List Token) (items left : List Item) → Reading first old new [] tokens items left → length tokens ≤ length items
   length-Reading first old new tokens items left reading =
       omega (arith, length-Took first old new tokens reading.done reading.took, ap length reading.split, length-append reading.done left)

@@ -1,4 +1,3 @@
-mod NameLemmas
 mod DecimalLemmas
 mod LexemeLemmas
 mod LineLemmas

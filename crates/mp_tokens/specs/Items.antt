@@ -4,7 +4,8 @@ use Rattle.std.specs.Prelude.{◌≡◌, ℕ, ℤ, ◌+◌, ◌-◌, ◌<◌, Li
 use Rattle.std.specs.List.{flat_map}
 use Rattle.mp_scaled.specs.Decimal.{decimal_of}
 use Rattle.mp_scaled.specs.declared.decimal.TooLarge.{TooLarge}
-use Rattle.mp_tokens.specs.Names.{Names, number_in, with_name}
+use Rattle.mp_symbols.specs.Names.{Names, number_in, with_name}
+use Rattle.mp_symbols.specs.Tables.{Table}
 use Rattle.mp_tokens.specs.Lines.{lines}
 use Rattle.mp_tokens.specs.Lexemes.{lexemes}
 use Rattle.mp_tokens.specs.declared.token.BadToken.{BadToken}
@@ -56,16 +57,20 @@ abbrev pub string_items : List ℕ → List Item
 string_items bytes = line_items bytes
 
 module _ {M : Type 0} where
-  -- the table with the name of an item, if it has one
+  -- the names with that of an item, if it has one
   abbrev pub with_item : M → Names M → Item → Names M
   with_item first names (Symbol name) = with_name names name first
   with_item first names item = names
 
-  -- the table with the names of items, the new ones in the order in which they first come
+  -- the names with those of items, the new ones in the order in which they first come
   abbrev pub with_items : M → Names M → List Item → Names M
   with_items first names items = fold (with_item first) names items
 
-  -- the token of an item whose name the table has
+  -- a table that gains the names of items; all else of it stays
+  abbrev pub with_names_of : M → Table M → List Item → Table M
+  with_names_of first table items = record table { names = with_items first table.names items }
+
+  -- the token of an item whose name is there
   abbrev pub token_in : Names M → Item → Token
   token_in names (Symbol name) = token.Sym (unwrap_or (number_in names name) 0)
   token_in names (Number value) = token.Num value
@@ -77,14 +82,14 @@ module _ {M : Type 0} where
   abbrev pub tokens_in : Names M → List Item → List Token
   tokens_in names items = map (token_in names) items
 
-  -- the table has the number of the token, if that is a symbol
+  -- the number of the token, if that is a symbol, is that of a name
   abbrev pub IsNumbered : Names M → Token → Type 0
   IsNumbered names (token.Sym symbol) = symbol < length names
   IsNumbered names other = ⊤
 
-  -- the table with the names of some first part of the items
-  pub record GainsSome (first : M) (old new : Names M) (items : List Item) : Type 0 where
+  -- the table gains the names of some first part of the items
+  pub record GainsSome (first : M) (old new : Table M) (items : List Item) : Type 0 where
     pub done : List Item
     pub left : List Item
     pub split : items ≡ done ++ left
-    pub names : new ≡ with_items first old done
+    pub names : new ≡ with_names_of first old done

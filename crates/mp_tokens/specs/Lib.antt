@@ -1,4 +1,3 @@
-pub mod Names
 pub mod Classes
 pub mod Lexemes
 pub mod Lines

@@ -1,15 +1,15 @@
 //! The tokens of a file and of a string.
 
 ghost use Rattle.std.specs.Prelude.{◌≡◌, ◌+◌, ◌≤◌, length, All, IfOk, OnOk, OnErr};
-ghost use Rattle.mp_tokens.specs.Items.{file_items, string_items, line_items, items_by, inner, tokens_in, with_items, IsNumbered, GainsSome};
+ghost use Rattle.mp_tokens.specs.Items.{file_items, string_items, line_items, items_by, inner, tokens_in, with_names_of, IsNumbered, GainsSome};
 ghost use Rattle.mp_tokens.specs.Reading.{Took, Fits};
 
 use crate::fresh::FreshMeaning;
 use crate::lexeme::{Kind, first_lexeme};
 use crate::lines::split_line;
-use crate::symbols::Symbols;
 use crate::token::{BadToken, Token, Tokens};
 use mp_scaled::{Listing, NoMemory, SharedSlice, read_decimal};
+use mp_symbols::Symbols;
 use std::alloc::Global;
 
 /// The tokens of a file: those of each line, and behind them its `LineEnd`.
@@ -22,9 +22,9 @@ pub fn items_of_file<M: FreshMeaning + Drop>(
     bytes: &[u8],
     names: &mut Symbols<M>,
 ) -> Result<Tokens, NoMemory>
-    ensures tokens { IfOk result (λ tokens. tokens ≡ tokens_in names.new (file_items bytes.now)) }
-    ensures names { OnOk result (names.new ≡ with_items M.first names.old (file_items bytes.now)) }
-    ensures symbols { IfOk result (All (IsNumbered names.new)) }
+    ensures tokens { IfOk result (λ tokens. tokens ≡ tokens_in names.new.names (file_items bytes.now)) }
+    ensures names { OnOk result (names.new ≡ with_names_of M.first names.old (file_items bytes.now)) }
+    ensures symbols { IfOk result (All (IsNumbered names.new.names)) }
     ensures length { IfOk result (λ tokens. length tokens ≤ length bytes.now + 1) }
     ensures err { OnErr result (GainsSome M.first names.old names.new (file_items bytes.now)) }
 {
@@ -49,9 +49,9 @@ pub fn items_of_string<M: FreshMeaning + Drop>(
     bytes: &[u8],
     names: &mut Symbols<M>,
 ) -> Result<Tokens, NoMemory>
-    ensures tokens { IfOk result (λ tokens. tokens ≡ tokens_in names.new (string_items bytes.now)) }
-    ensures names { OnOk result (names.new ≡ with_items M.first names.old (string_items bytes.now)) }
-    ensures symbols { IfOk result (All (IsNumbered names.new)) }
+    ensures tokens { IfOk result (λ tokens. tokens ≡ tokens_in names.new.names (string_items bytes.now)) }
+    ensures names { OnOk result (names.new ≡ with_names_of M.first names.old (string_items bytes.now)) }
+    ensures symbols { IfOk result (All (IsNumbered names.new.names)) }
     ensures length { IfOk result (λ tokens. length tokens ≤ length bytes.now) }
     ensures err { OnErr result (GainsSome M.first names.old names.new (string_items bytes.now)) }
 {

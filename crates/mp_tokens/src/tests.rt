@@ -1,7 +1,8 @@
 ghost use Rattle.std.specs.Prelude.{All};
 ghost use Rattle.mp_tokens.specs.Items.{IsNumbered};
 
-use crate::{FreshMeaning, Symbols, Token, Tokens, items_of_file, items_of_string};
+use crate::{FreshMeaning, Token, Tokens, items_of_file, items_of_string};
+use mp_symbols::Symbols;
 use std::alloc::{AllocError, Global};
 use std::test::Fail;
 
@@ -23,7 +24,7 @@ impl FreshMeaning for Meaning {
 
 // The tokens as text, each with a space behind it; `|` and its number for the end of a line.
 fn shown(alloc: Global, tokens: &Tokens, names: &Symbols<Meaning>) -> Result<Vec<u8>, AllocError>
-    requires { All (IsNumbered names.now) tokens.now }
+    requires { All (IsNumbered names.now.names) tokens.now }
 {
     let mut text = Vec::new(alloc);
     for token in tokens.as_slice() {

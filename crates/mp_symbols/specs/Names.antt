@@ -1,5 +1,5 @@
 -- A table of names: each name with its meaning, in the order of their numbers.
-use Rattle.std.specs.Prelude.{ℕ, List, [], ◌∷◌, ◌++◌, is_some, cond, Option, position, slice_get}
+use Rattle.std.specs.Prelude.{ℕ, zero, suc, List, [], ◌∷◌, ◌++◌, is_some, cond, Option, position, slice_get}
 use Rattle.std.specs.Option.{option_map}
 use Rattle.std.specs.Str.{bytes_eq}
 
@@ -22,3 +22,9 @@ module _ {M : Type 0} where
   -- the table with a name: one that is there keeps its number and its meaning, and a new one goes last
   abbrev pub with_name : Names M → List ℕ → M → Names M
   with_name names name fresh = cond (is_some (number_in names name)) names (names ++ (name, fresh) ∷ [])
+
+  -- the table with another meaning of the name with a number
+  abbrev pub with_meaning : Names M → ℕ → M → Names M
+  with_meaning [] number new = []
+  with_meaning (entry ∷ more) zero new = (entry.0, new) ∷ more
+  with_meaning (entry ∷ more) (suc number) new = entry ∷ with_meaning more number new

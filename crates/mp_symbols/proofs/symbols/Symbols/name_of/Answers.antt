@@ -1,6 +1,6 @@
 use Rattle.std.proofs.Common.{Vec, Global, ℕ, ◌≡◌, Some, slice_get, sym}
-use Rattle.mp_tokens.proofs.NameLemmas.{number_in-own}
-use Rattle.mp_tokens.proofs.symbols.Symbols.name_of.Goals as goal
+use Rattle.mp_symbols.proofs.NameLemmas.{number_in-own}
+use Rattle.mp_symbols.proofs.symbols.Symbols.name_of.Goals as goal
 
 pub returns-in-Some-clause-number : goal.returns-in-Some-clause-number
 returns-in-Some-clause-number g c =

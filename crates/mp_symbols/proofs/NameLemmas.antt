@@ -1,5 +1,5 @@
 -- The names that contracts see, and the entries that are stored.
-use Rattle.std.proofs.Common.{◌≡◌, ℕ, ◌+◌, ◌<◌, ◌≤◌, Bool, true, false, not, cond, nat_lt, List, [], ◌∷◌, ◌++◌, length, map, get_or, position, slice_get, Option, Some, None, is_some, refl, sym, ap, ◌∙◌, inl, inr, arith, length-append}
+use Rattle.std.proofs.Common.{◌≡◌, ℕ, zero, suc, ◌+◌, ◌<◌, ◌≤◌, Bool, true, false, not, cond, nat_lt, List, [], ◌∷◌, ◌++◌, length, map, get_or, position, slice_get, Option, Some, None, is_some, refl, sym, ap, ◌∙◌, inl, inr, arith, length-append}
 use Rattle.std.specs.List.{position_or_len, IsDistinct}
 use Rattle.std.specs.Map.{keys_of, values_of}
 use Rattle.std.specs.Option.{option_map}
@@ -10,14 +10,15 @@ use Rattle.std.proofs.lemmas.Map.Keys.{apart_from_distinct}
 use Rattle.std.proofs.lemmas.List.Sums.{position_or_len_is, prefix_len-le-length}
 use Rattle.std.proofs.lemmas.List.Folds.{position_or_len_push}
 use Rattle.std.proofs.lemmas.List.{length-map, map-append}
+use Rattle.std.proofs.lemmas.List.Quantifiers.{position-Some}
 use Rattle.std.proofs.lemmas.Bool.{cases_lt, lt-ltb, eq-eqb, ltb-true, ne_eqb}
 use Rattle.std.proofs.lemmas.Cmp.{nat_list_eq_equiv}
 use Rattle.std.proofs.Math.Nat.{add-zero}
-use Rattle.indexmap.specs.IndexMap.{IndexMap, insert_entry, get, get_by}
+use Rattle.indexmap.specs.IndexMap.{IndexMap, insert_entry, get, get_by, set_value_at}
 use Rattle.indexmap.proofs.CallerLemmas.{insert_entry-new}
-use Rattle.mp_tokens.specs.Names.{Names, number_in, meaning_in, with_name}
+use Rattle.mp_symbols.specs.Names.{Names, number_in, meaning_in, with_name, with_meaning}
 
-position_is : {X : Type 0} (p : X → Bool) (xs : List X) (n m : ℕ) → position_or_len p xs ≡ n → length xs ≡ m → position p xs ≡ cond (nat_lt n m) (Some n) None
+pub position_is : {X : Type 0} (p : X → Bool) (xs : List X) (n m : ℕ) → position_or_len p xs ≡ n → length xs ≡ m → position p xs ≡ cond (nat_lt n m) (Some n) None
 position_is p xs n m place long =
     ap (λ k. cond (nat_lt k (length xs)) (Some k) None) place ∙ ap (λ k. cond (nat_lt n k) (Some n) None) long
 
@@ -63,6 +64,15 @@ module _ {K M : Type 0} (bytes : K → List ℕ) where
       ap (option_map (λ e. e.1)) (slice_get-map (λ e. (bytes e.0, e.1)) entries i)
       ∙ option_map-twice (λ e. (bytes e.0, e.1)) (λ e. e.1) (slice_get entries i)
       ∙ sym (slice_get-map (λ e. e.1) entries i) ∙ at
+
+  pub length-names_of : (entries : List (K × M)) → length (names_of entries) ≡ length entries
+  length-names_of entries = length-map entries (λ e. (bytes e.0, e.1))
+
+  -- another value at an index
+  pub names_of-set_value_at : (entries : List (K × M)) (i : ℕ) (v : M) → names_of (set_value_at entries i v) ≡ with_meaning (names_of entries) i v
+  names_of-set_value_at [] i v = refl
+  names_of-set_value_at (e ∷ es) zero v = refl
+  names_of-set_value_at (e ∷ es) (suc i) v = ap (λ rest. (bytes e.0, e.1) ∷ rest) (names_of-set_value_at es i v)
 
   -- where no two stored names are the same, a stored name has its own index as its number
   pub number_in-own : (entries : List (K × M)) (i : ℕ) (k : K) (v : M) → IsDistinct (λ a b. bytes_eq (bytes a) (bytes b)) (keys_of entries) → slice_get entries i ≡ Some (k, v) → number_in (names_of entries) (bytes k) ≡ Some i
@@ -157,3 +167,14 @@ Adds-insert {K} {M} bytes map new k fresh name own inserted unfound unplaced =
       number = ap (λ t. number_in t name) pushed ∙ number_in-new (names_of bytes map.entries) name fresh none
           ∙ ap Some (length-map map.entries (λ e. (bytes e.0, e.1)));
     }
+
+module _ {M : Type 0} where
+  -- a number is one of the table's
+  pub number_in-within : (names : Names M) (name : List ℕ) (some : M) (k : ℕ) → number_in names name ≡ Some k → k < length names
+  number_in-within names name some k at = (position-Some (λ e. bytes_eq name e.0) names k (name, some) at).0
+
+  -- another meaning leaves the names
+  pub length-with_meaning : (names : Names M) (symbol : ℕ) (new : M) → length (with_meaning names symbol new) ≡ length names
+  length-with_meaning [] symbol new = refl
+  length-with_meaning (entry ∷ more) zero new = refl
+  length-with_meaning (entry ∷ more) (suc symbol) new = ap suc (length-with_meaning more symbol new)

@@ -1,6 +1,6 @@
 use Rattle.std.proofs.Common.{Vec, Global, ℕ}
-use Rattle.mp_tokens.proofs.NameLemmas.{meaning_in-names_of}
-use Rattle.mp_tokens.proofs.symbols.Symbols.meaning.Goals as goal
+use Rattle.mp_symbols.proofs.NameLemmas.{meaning_in-names_of}
+use Rattle.mp_symbols.proofs.symbols.Symbols.meaning.Goals as goal
 
 pub returns : goal.returns
 returns g c =

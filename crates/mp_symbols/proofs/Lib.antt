@@ -1,0 +1,4 @@
+pub mod NameLemmas
+pub mod TableLemmas
+mod LawLemmas
+mod Examples

@@ -1,0 +1,6 @@
+use Rattle.std.proofs.Common.{◌<◌, length}
+use Rattle.mp_symbols.proofs.tests.after.Given as goal
+
+-- the internal is there
+abbrev pub invariant-calls : goal.invariant-calls
+invariant-calls l = l.k < length l.table.internals

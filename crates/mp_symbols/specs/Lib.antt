@@ -1,0 +1,5 @@
+pub mod Names
+pub mod Tables
+pub mod Groups
+pub mod Coding
+pub mod Calls
