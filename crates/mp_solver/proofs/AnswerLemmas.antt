@@ -1,5 +1,5 @@
 -- The answer to an equation, once the pivot's new form has replaced it everywhere.
-use Rattle.std.proofs.Common.{◌≡◌, ℕ, ◌-◌, ◌<◌, ◌≤◌, ◌^◌, min, unsigned_abs, Bool, true, false, ◌||◌, List, [], ◌∷◌, ◌++◌, Some, map, length, get_or, set, take, refl, sym, ap, ◌∙◌, arith}
+use Rattle.std.proofs.Common.{◌≡◌, ℕ, ◌+◌, ◌-◌, ◌<◌, ◌≤◌, ◌^◌, unsigned_abs, Bool, true, false, ◌||◌, List, [], ◌∷◌, ◌++◌, Some, map, length, get_or, set, take, drop, refl, sym, ap, ◌∙◌, arith}
 use Rattle.std.specs.List.{list_any, fold}
 use Rattle.std.specs.Option.{option_map}
 use Rattle.std.proofs.lemmas.Bool.{lt-ltb, le-ltb, lt-leb}
@@ -44,7 +44,7 @@ module _ (states : States) (residual : LinearForm) (is : IsResidual states resid
       let some : list_any has_large_coefficient (forms_in after) ≡ true = any_after has_large_coefficient ∙ rw (new_small, large) refl in
       sym (by_limits ∙ rw some refl)
 
-  module _ (i : ℕ) (all : length states ≤ i) (changes : List Change) (overflows : Bool) (terms : ℕ) (tally : IsTally states pivot.serial new i changes overflows terms) where
+  module _ (i : ℕ) (all : length states ≤ i) (changes : List Change) (overflows : Bool) (kept made : ℕ) (tally : IsTally states pivot.serial new i changes overflows kept made) where
     whole : take i mapped ≡ mapped
     whole = let same = length-map states (option_map (replaced pivot.serial new)) in take_all i mapped (omega (arith, all, same))
 
@@ -57,25 +57,26 @@ module _ (states : States) (residual : LinearForm) (is : IsResidual states resid
     pub answer-overflow : overflows ≡ true → (Overflow, states) ≡ eliminate states residual
     answer-overflow over = sym (by_limits ∙ rw (coefficients, constants, over) refl)
 
-    count : overflows ≡ false → terms ≡ min (term_count after) 4000001
+    -- the terms that are kept and those that are made
+    count : overflows ≡ false → (kept + made ≤ 4000000 → kept + made ≡ term_count after) × (4000000 < kept + made → 4000000 < term_count after)
     count fits =
         let before = tally.counted fits in
+        let made_is = before.made_is in
+        let total_is = before.total_is in
         let total : term_count (take i mapped) ≡ term_count mapped = ap term_count whole in
+        let rest : term_count (drop i states) ≡ 0 = ap term_count (drop_all i states all) in
         let sum = term_count-set mapped (pivot.serial - 1) new (slot_within states residual is pivot found) (slot_empty states residual is pivot found) in
-        omega (arith, before, total, sum)
+        (λ within. omega (arith, made_is, total_is, total, rest, sum, within), λ many. omega (arith, made_is, total_is, total, rest, sum, many))
 
-    pub answer-limit : overflows ≡ false → 4000000 < terms → (Limit, states) ≡ eliminate states residual
-    answer-limit fits many =
-        let counted = count fits in
-        let more : 4000000 < term_count after = omega (arith, counted, many) in
-        sym (by_limits ∙ rw (coefficients, constants, fits, lt-ltb 4000000 (term_count after) more) refl)
+    pub answer-limit : overflows ≡ false → 4000000 < kept + made → (Limit, states) ≡ eliminate states residual
+    answer-limit fits many = sym (by_limits ∙ rw (coefficients, constants, fits, lt-ltb 4000000 (term_count after) ((count fits).1 many)) refl)
 
     -- all forms are within the limits
-    pub IsReady-accepted : (form : LinearForm) → overflows ≡ false → form ≡ new → terms ≤ 4000000 →
-        IsReady states residual Accepted (changes ++ record { index = pivot.serial - 1; form = form } ∷ []) terms
+    pub IsReady-accepted : (form : LinearForm) → overflows ≡ false → form ≡ new → kept + made ≤ 4000000 →
+        IsReady states residual Accepted (changes ++ record { index = pivot.serial - 1; form = form } ∷ []) (kept + made)
     IsReady-accepted form fits same few =
         let last : Change = record { index = pivot.serial - 1; form = form } in
-        let counted = count fits in
+        let counted = (count fits).0 few in
         let less : term_count after ≤ 4000000 = omega (arith, counted, few) in
         let replaced_all : fold with_change states changes ≡ mapped =
         tally.applied fits ∙ ap (λ ss. take i mapped ++ ss) (drop_all i states all) ∙ append-nil (take i mapped) ∙ whole in

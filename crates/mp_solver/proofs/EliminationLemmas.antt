@@ -84,7 +84,7 @@ or_false true b e = absurd cc
 or_false false b e = (refl, e)
 
 -- no item passes a test
-all_fail : {X : Type 0} (p : X → Bool) (xs : List X) → list_any p xs ≡ false → All (λ x. p x ≡ false) xs
+pub all_fail : {X : Type 0} (p : X → Bool) (xs : List X) → list_any p xs ≡ false → All (λ x. p x ≡ false) xs
 all_fail p [] e = All-nil (λ x. p x ≡ false)
 all_fail p (x ∷ xs) e = let both = or_false (p x) (list_any p xs) e in All-cons (λ x. p x ≡ false) x xs both.0 (all_fail p xs both.1)
 

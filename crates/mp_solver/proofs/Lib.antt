@@ -10,3 +10,7 @@ pub mod StepLemmas
 pub mod Examples
 pub mod JudgedLemmas
 pub mod SettledLemmas
+pub mod PlaceLemmas
+pub mod VisitLemmas
+pub mod LimitLemmas
+pub mod ReplayLemmas

@@ -14,15 +14,15 @@ use Rattle.mp_solver.specs.Solved.{IsKept}
 use Rattle.mp_solver.proofs.EliminationLemmas.{IsSolved-after, length_after, length-forms_in_after}
 
 module _ (states : States) (residual : LinearForm) where
-  record IsTaken (after : States) : Type 0 where
-    pivot : Term
-    found : pivot_of residual.terms ≡ Some pivot
-    is : after ≡ solved_states states pivot (solved_for pivot residual)
-    coefficients : list_any has_large_coefficient (forms_in after) ≡ false
-    constants : list_any has_large_constant (forms_in after) ≡ false
-    few : term_count after ≤ 4000000
+  pub record IsTaken (after : States) : Type 0 where
+    pub pivot : Term
+    pub found : pivot_of residual.terms ≡ Some pivot
+    pub is : after ≡ solved_states states pivot (solved_for pivot residual)
+    pub coefficients : list_any has_large_coefficient (forms_in after) ≡ false
+    pub constants : list_any has_large_constant (forms_in after) ≡ false
+    pub few : term_count after ≤ 4000000
 
-  abbrev Outcome : Equated × States → Type 0
+  abbrev pub Outcome : Equated × States → Type 0
   Outcome e = ((e.0 ≢ Accepted) × (e.1 ≡ states)) ⊎ ((e.0 ≡ Accepted) × IsTaken e.1)
 
   judged_refuses : (z : ℤ) (b : Bool) → cond b (Redundant z) (Inconsistent z) ≢ Accepted
@@ -51,7 +51,7 @@ module _ (states : States) (residual : LinearForm) where
   by_pivot None found = inl (judged_refuses residual.constant (leb (unsigned_abs residual.constant) 64), refl)
   by_pivot (Some pivot) found = by_limits pivot found (solved_states states pivot (solved_for pivot residual)) refl _ _ _ refl refl refl
 
-  outcome : Outcome (eliminate states residual)
+  pub outcome : Outcome (eliminate states residual)
   outcome = by_pivot (pivot_of residual.terms) refl
 
 -- an equation that is not accepted changes nothing

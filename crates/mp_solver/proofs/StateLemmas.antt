@@ -14,13 +14,13 @@ length-forms_in [] = omega arith
 length-forms_in (None ∷ states) = omega (arith, length-forms_in states)
 length-forms_in (Some form ∷ states) = omega (arith, length-forms_in states)
 
-forms_in-with_fresh : (states : States) → forms_in (with_fresh states) ≡ forms_in states
+pub forms_in-with_fresh : (states : States) → forms_in (with_fresh states) ≡ forms_in states
 forms_in-with_fresh states = filter_map-append (λ form. form) states (None ∷ []) ∙ append-nil (forms_in states)
 
 form_of-with_fresh : (states : States) (serial : ℕ) → IsSerial states serial → form_of (with_fresh states) serial ≡ form_of states serial
 form_of-with_fresh states serial within = get_or-append states (None ∷ []) None (serial - 1) (omega (arith, within.0, within.1))
 
-IsSolvedForm-with_fresh : (states : States) (p : LinearForm) → IsSolvedForm states p → IsSolvedForm (with_fresh states) p
+pub IsSolvedForm-with_fresh : (states : States) (p : LinearForm) → IsSolvedForm states p → IsSolvedForm (with_fresh states) p
 IsSolvedForm-with_fresh states p solved =
     let longer = length-append states (None ∷ []) in
     record {

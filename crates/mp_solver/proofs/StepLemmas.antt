@@ -33,7 +33,7 @@ holds-at P (Some q ∷ ss) zero p all some = let same : q ≡ p = cc in subst P 
 holds-at P (None ∷ ss) (suc i) p all some = holds-at P ss i p all some
 holds-at P (Some q ∷ ss) (suc i) p all some = holds-at P ss i p (All-tail P q (forms_in ss) all) some
 
-small_form : (states : States) (p : LinearForm) → IsSolvedForm states p → (has_large_coefficient p ≡ false) × (has_large_constant p ≡ false)
+pub small_form : (states : States) (p : LinearForm) → IsSolvedForm states p → (has_large_coefficient p ≡ false) × (has_large_constant p ≡ false)
 small_form states p solved = (
   list_any_none is_too_large p.terms (λ i d lt. lt-leb (2 ^ 44) (unsigned_abs (get_or p.terms i d).coefficient) ((solved.terms.coefficients i d lt).1)),
   lt-leb (2 ^ 31) (unsigned_abs p.constant) solved.constant,
@@ -48,7 +48,7 @@ or_true_right true b e = refl
 or_true_right false b e = e
 
 module _ (states : States) (solved : IsSolved states) (serial : ℕ) (new : LinearForm) (solution : Solution) (is : IsSolution solution new)
-    (i : ℕ) (changes : List Change) (overflows : Bool) (terms : ℕ) (so_far : IsTally states serial new i changes overflows terms) (at : i < length states)
+    (i : ℕ) (changes : List Change) (overflows : Bool) (kept made : ℕ) (so_far : IsTally states serial new i changes overflows kept made) (at : i < length states)
     (form : LinearForm) (some : get_or states i None ≡ Some form) (answer : Replacement) (answer_is : answer ≡ replacement_of (replaced_sum serial solution.form form)) where
   held_is : solution.form ≡ record { constant = solution.form.constant; terms = new.terms }
   held_is = ap (λ ts. record { constant = solution.form.constant; terms = ts }) is.terms
@@ -62,26 +62,26 @@ module _ (states : States) (solved : IsSolved states) (serial : ℕ) (new : Line
   fits_new : overflows ≡ false → solution.overflows ≡ false
   fits_new fits = is.overflows ∙ or_left (has_large_constant new) _ (sym so_far.overflow ∙ fits)
 
-  pub step-kept : (more : ℕ) → answer ≡ Kept → more ≡ min (terms + length form.terms) 4000001 → IsTally states serial new (i + 1) changes overflows more
-  step-kept more same count =
+  pub step-kept : answer ≡ Kept → IsTally states serial new (i + 1) changes overflows kept made
+  step-kept same =
       let small = small_form states form (holds-at (IsSolvedForm states) states i form solved.forms some) in
-      IsTally-kept states serial new i changes overflows terms so_far at form some more (said_of Kept same) small.0 small.1 count
+      IsTally-kept states serial new i changes overflows kept made so_far at form some (said_of Kept same) small.0 small.1
 
-  pub step-changed : (f : LinearForm) (more : ℕ) → answer ≡ Changed f → more ≡ min (terms + length f.terms) 4000001 →
-      IsTally states serial new (i + 1) (changes ++ record { index = i; form = f } ∷ []) overflows more
-  step-changed f more same count =
+  pub step-changed : (f : LinearForm) (less more : ℕ) → answer ≡ Changed f → less ≡ kept - length form.terms → more ≡ min (made + length f.terms) 4000001 →
+      IsTally states serial new (i + 1) (changes ++ record { index = i; form = f } ∷ []) overflows less more
+  step-changed f less more same fewer count =
       let now = said_of (Changed f) same in
-      IsTally-changed states serial new i changes overflows terms so_far at form some f more now.0 (λ fits. now.1 (fits_new fits)) count
+      IsTally-changed states serial new i changes overflows kept made so_far at form some f less more now.0 (λ fits. now.1 (fits_new fits)) fewer count
 
-  pub step-overflows : answer ≡ Overflows → IsTally states serial new (i + 1) changes true terms
+  pub step-overflows : answer ≡ Overflows → IsTally states serial new (i + 1) changes true kept made
   step-overflows same =
       let now = said_of Overflows same in
-      IsTally-overflows states serial new i changes overflows terms so_far at form some now.0 (λ fits. now.1 (fits_new fits))
+      IsTally-overflows states serial new i changes overflows kept made so_far at form some now.0 (λ fits. now.1 (fits_new fits))
 
   pub step-too_large : answer ≡ TooLarge → list_any has_large_coefficient (forms_in (map (option_map (replaced serial new)) states)) ≡ true
   step-too_large same =
       let mapped : States = map (option_map (replaced serial new)) states in
-      let here = any_next states serial new i changes overflows terms so_far at form some has_large_coefficient in
+      let here = any_next states serial new i changes overflows kept made so_far at form some has_large_coefficient in
       let large : list_any has_large_coefficient (forms_in (take (i + 1) mapped)) ≡ true = here ∙ or_true_right _ _ (said_of TooLarge same) in
       ap (λ ss. list_any has_large_coefficient (forms_in ss)) (sym (take-append-drop (i + 1) mapped))
       ∙ ap (list_any has_large_coefficient) (filter_map-append (λ form. form) (take (i + 1) mapped) (drop (i + 1) mapped))
@@ -144,7 +144,7 @@ module _ (states : States) (solved : IsSolved states) where
       }
 
 -- the form that is held is the new one, where nothing overflows
-pub solution_is : (states : States) (serial : ℕ) (new : LinearForm) (solution : Solution) → IsSolution solution new → (i : ℕ) (changes : List Change) (overflows : Bool) (terms : ℕ) → IsTally states serial new i changes overflows terms → overflows ≡ false → solution.form ≡ new
-solution_is states serial new solution is i changes overflows terms tally fits =
+pub solution_is : (states : States) (serial : ℕ) (new : LinearForm) (solution : Solution) → IsSolution solution new → (i : ℕ) (changes : List Change) (overflows : Bool) (kept made : ℕ) → IsTally states serial new i changes overflows kept made → overflows ≡ false → solution.form ≡ new
+solution_is states serial new solution is i changes overflows kept made tally fits =
     let none : solution.overflows ≡ false = is.overflows ∙ or_left (has_large_constant new) _ (sym tally.overflow ∙ fits) in
     ap (λ ts. record { constant = solution.form.constant; terms = ts }) is.terms ∙ ap (λ k. record { constant = k; terms = new.terms }) (is.constant none)

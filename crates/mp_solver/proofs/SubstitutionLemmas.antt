@@ -1,10 +1,10 @@
 -- The pivot's new form replaces it, form by form.
-use Rattle.std.proofs.Common.{◌≡◌, ℕ, ◌+◌, ◌<◌, ◌≤◌, ◌^◌, min, ℤ, ◌+ℤ◌, unsigned_abs, Bool, true, false, ◌||◌, cond, leb, ltb, List, [], ◌∷◌, ◌++◌, Option, Some, None, Ok, Err, zero, suc, map, length, get_or, set, take, drop, refl, sym, ap, ◌∙◌, subst, arith}
+use Rattle.std.proofs.Common.{◌≡◌, ℕ, ◌+◌, ◌-◌, ◌<◌, ◌≤◌, ◌^◌, min, ℤ, ◌+ℤ◌, unsigned_abs, Bool, true, false, ◌||◌, cond, leb, ltb, List, [], ◌∷◌, ◌++◌, Option, Some, None, Ok, Err, zero, suc, map, length, get_or, set, take, drop, refl, sym, ap, ◌∙◌, subst, arith}
 use Rattle.std.specs.List.{All, list_any, sum_by, fold}
 use Rattle.std.specs.Option.{option_map}
 use Rattle.std.proofs.lemmas.Bool.{ltb-true, ltb-false, le-leb, leb-true}
-use Rattle.std.proofs.lemmas.List.{take_more, drop_more, append-nil, length-map, append_assoc, length-take-le}
-use Rattle.std.proofs.lemmas.List.Sums.{sum_by-append, fold-append}
+use Rattle.std.proofs.lemmas.List.{take_more, drop_more, take_all, drop_all, append-nil, length-map, append_assoc, length-take-le}
+use Rattle.std.proofs.lemmas.List.Sums.{sum_by-append, sum_by-cons, fold-append}
 use Rattle.std.proofs.lemmas.List.Folds.{list_any-append}
 use Rattle.std.proofs.lemmas.List.Elements.{filter_map-append, All-nil, All-cons, All-append}
 use Rattle.mp_pool.specs.declared.Term.{Term}
@@ -115,21 +115,32 @@ set-seam [] ys old y (suc i) is = absurd (omega (arith, is))
 set-seam (x ∷ xs) ys old y zero is = absurd (omega (arith, is))
 set-seam (x ∷ xs) ys old y (suc i) is = ap (λ zs. x ∷ zs) (set-seam xs ys old y i (omega (arith, is)))
 
--- how far the loop over the states has come: at i, with these changes, an overflow or none, and so many terms
-pub record IsTally (states : States) (serial : ℕ) (new : LinearForm) (i : ℕ) (changes : List Change) (overflows : Bool) (terms : ℕ) : Type 0 where
+-- how many terms there are, where the first so many forms are new: those of the forms that are kept, and those of
+-- the new ones, which are counted to the limit alone
+pub record IsCount (new : LinearForm) (kept made total : ℕ) : Type 0 where
+  pub changed : ℕ
+  pub made_is : made ≡ min (length new.terms + changed) 4000001
+  pub total_is : kept + changed ≡ total
+
+-- how far the replacement has come: to the form at i, with these changes, an overflow or none, and so many terms
+pub record IsTally (states : States) (serial : ℕ) (new : LinearForm) (i : ℕ) (changes : List Change) (overflows : Bool) (kept made : ℕ) : Type 0 where
   pub small : list_any has_large_coefficient (forms_in (take i (map (option_map (replaced serial new)) states))) ≡ false
   pub overflow : overflows ≡ (has_large_constant new || list_any has_large_constant (forms_in (take i (map (option_map (replaced serial new)) states))))
   pub applied : overflows ≡ false → fold with_change states changes ≡ take i (map (option_map (replaced serial new)) states) ++ drop i states
-  pub counted : overflows ≡ false → terms ≡ min (length new.terms + term_count (take i (map (option_map (replaced serial new)) states))) 4000001
-  pub bounded : terms ≤ 4000001
+  pub counted : overflows ≡ false → IsCount new kept made (term_count (take i (map (option_map (replaced serial new)) states)) + term_count (drop i states))
+  pub rest : term_count (drop i states) ≤ kept
+  pub few : kept ≤ 4000000
+  pub bounded : made ≤ 4000001
   pub within : All (λ change. change.index < length states) changes
 
-pub IsTally-start : (states : States) (serial : ℕ) (new : LinearForm) (overflows : Bool) (terms : ℕ) → overflows ≡ has_large_constant new → terms ≡ min (0 + length new.terms) 4000001 → IsTally states serial new 0 [] overflows terms
-IsTally-start states serial new overflows terms is count = record {
+pub IsTally-start : (states : States) (serial : ℕ) (new : LinearForm) (overflows : Bool) (kept made : ℕ) → overflows ≡ has_large_constant new → kept ≡ term_count states → kept ≤ 4000000 → made ≡ min (0 + length new.terms) 4000001 → IsTally states serial new 0 [] overflows kept made
+IsTally-start states serial new overflows kept made is all few count = record {
   small = refl;
   overflow = is ∙ sym (or_false_right (has_large_constant new));
   applied = λ _. refl;
-  counted = λ _. omega (arith, count);
+  counted = λ _. record { changed = 0; made_is = omega (arith, count); total_is = omega (arith, all) };
+  rest = omega (arith, all);
+  few = few;
   bounded = omega (arith, count);
   within = All-nil (λ change. change.index < length states);
 }
@@ -150,7 +161,28 @@ grows_by : (a b : Bool) → (a ≡ false → b ≡ true) → true ≡ (a || b)
 grows_by true b some = refl
 grows_by false b some = sym (some refl)
 
-module _ (states : States) (serial : ℕ) (new : LinearForm) (i : ℕ) (changes : List Change) (overflows : Bool) (terms : ℕ) (so_far : IsTally states serial new i changes overflows terms) (at : i < length states) where
+module _ (states : States) (serial : ℕ) (new : LinearForm) (i : ℕ) (changes : List Change) (overflows : Bool) (kept made : ℕ) (so_far : IsTally states serial new i changes overflows kept made) where
+  abbrev all_mapped : States
+  all_mapped = map (option_map (replaced serial new)) states
+
+  -- there is no state any more
+  pub IsTally-past : length states ≤ i → IsTally states serial new (i + 1) changes overflows kept made
+  IsTally-past past =
+      let same = length-map states (option_map (replaced serial new)) in
+      let front : take (i + 1) all_mapped ≡ take i all_mapped = take_all (i + 1) all_mapped (omega (arith, past, same)) ∙ sym (take_all i all_mapped (omega (arith, past, same))) in
+      let back : drop (i + 1) states ≡ drop i states = drop_all (i + 1) states (omega (arith, past)) ∙ sym (drop_all i states past) in
+      record {
+        small = ap (λ ss. list_any has_large_coefficient (forms_in ss)) front ∙ so_far.small;
+        overflow = so_far.overflow ∙ ap (λ ss. has_large_constant new || list_any has_large_constant (forms_in ss)) (sym front);
+        applied = λ fits. rw (front, back) (so_far.applied fits);
+        counted = λ fits. rw (front, back) (so_far.counted fits);
+        rest = rw back so_far.rest;
+        few = so_far.few;
+        bounded = so_far.bounded;
+        within = so_far.within;
+      }
+
+module _ (states : States) (serial : ℕ) (new : LinearForm) (i : ℕ) (changes : List Change) (overflows : Bool) (kept made : ℕ) (so_far : IsTally states serial new i changes overflows kept made) (at : i < length states) where
   abbrev mapped : States
   mapped = map (option_map (replaced serial new)) states
 
@@ -161,18 +193,23 @@ module _ (states : States) (serial : ℕ) (new : LinearForm) (i : ℕ) (changes 
   in_mapped = let same = length-map states (option_map (replaced serial new)) in omega (arith, at, same)
 
   -- an independent unknown
-  pub IsTally-none : get_or states i None ≡ None → IsTally states serial new (i + 1) changes overflows terms
+  pub IsTally-none : get_or states i None ≡ None → IsTally states serial new (i + 1) changes overflows kept made
   IsTally-none none =
       let m : get_or mapped i None ≡ None = get_or-map (replaced serial new) states i ∙ ap (option_map (replaced serial new)) none in
       let next : take (i + 1) mapped ≡ done ++ None ∷ [] = take_more mapped i None in_mapped ∙ ap (λ s. done ++ s ∷ []) m in
       let forms : forms_in (take (i + 1) mapped) ≡ forms_in done = ap forms_in next ∙ forms_in-more_none done in
+      let split : drop i states ≡ None ∷ drop (i + 1) states = drop_more states i None at ∙ ap (λ s. s ∷ drop (i + 1) states) none in
+      let rest : term_count (drop i states) ≡ term_count (drop (i + 1) states) = ap term_count split in
       record {
         small = ap (list_any has_large_coefficient) forms ∙ so_far.small;
         overflow = so_far.overflow ∙ ap (λ fs. has_large_constant new || list_any has_large_constant fs) (sym forms);
-        applied = λ fits.
-            so_far.applied fits ∙ ap (λ ss. done ++ ss) (drop_more states i None at ∙ ap (λ s. s ∷ drop (i + 1) states) none)
-            ∙ sym (append_assoc done (None ∷ []) (drop (i + 1) states)) ∙ ap (λ ss. ss ++ drop (i + 1) states) (sym next);
-        counted = λ fits. so_far.counted fits ∙ ap (λ fs. min (length new.terms + sum_by (λ p. length p.terms) fs) 4000001) (sym forms);
+        applied = λ fits. so_far.applied fits ∙ ap (λ ss. done ++ ss) split ∙ sym (append_assoc done (None ∷ []) (drop (i + 1) states)) ∙ ap (λ ss. ss ++ drop (i + 1) states) (sym next);
+        counted = λ fits.
+            let before = so_far.counted fits in
+            let front : term_count (take (i + 1) mapped) ≡ term_count done = ap (sum_by (λ p. length p.terms)) forms in
+            record { changed = before.changed; made_is = before.made_is; total_is = let total = before.total_is in omega (arith, total, front, rest) };
+        rest = omega (arith, so_far.rest, rest);
+        few = so_far.few;
         bounded = so_far.bounded;
         within = so_far.within;
       }
@@ -193,8 +230,11 @@ module _ (states : States) (serial : ℕ) (new : LinearForm) (i : ℕ) (changes 
     length_done : i ≡ length done
     length_done = sym (length-take-le i mapped (omega (arith, in_mapped)))
 
+    split : drop i states ≡ Some form ∷ drop (i + 1) states
+    split = drop_more states i None at ∙ ap (λ s. s ∷ drop (i + 1) states) some
+
     applied_before : overflows ≡ false → fold with_change states changes ≡ done ++ Some form ∷ drop (i + 1) states
-    applied_before fits = so_far.applied fits ∙ ap (λ ss. done ++ ss) (drop_more states i None at ∙ ap (λ s. s ∷ drop (i + 1) states) some)
+    applied_before fits = so_far.applied fits ∙ ap (λ ss. done ++ ss) split
 
     applied_next : done ++ Some q ∷ drop (i + 1) states ≡ take (i + 1) mapped ++ drop (i + 1) states
     applied_next = sym (append_assoc done (Some q ∷ []) (drop (i + 1) states)) ∙ ap (λ ss. ss ++ drop (i + 1) states) (sym next)
@@ -208,27 +248,37 @@ module _ (states : States) (serial : ℕ) (new : LinearForm) (i : ℕ) (changes 
         ∙ sym (or_assoc' (has_large_constant new) (list_any has_large_constant (forms_in done)) (has_large_constant q))
         ∙ ap (λ b. has_large_constant new || b) (sym (any_next has_large_constant))
 
-    counted_next : overflows ≡ false → (more : ℕ) → more ≡ min (terms + length q.terms) 4000001 → more ≡ min (length new.terms + term_count (take (i + 1) mapped)) 4000001
-    counted_next fits more is =
-        let before = so_far.counted fits in
-        let count : term_count (take (i + 1) mapped) ≡ term_count done + length q.terms = ap term_count next ∙ term_count-more done q in
-        omega (arith, before, count, is)
+    rest_before : term_count (drop i states) ≡ length form.terms + term_count (drop (i + 1) states)
+    rest_before = ap term_count split ∙ sum_by-cons (λ p. length p.terms) form (forms_in (drop (i + 1) states))
+
+    count_next : term_count (take (i + 1) mapped) ≡ term_count done + length q.terms
+    count_next = ap term_count next ∙ term_count-more done q
+
+    -- the terms of the form are among those of the forms that are kept
+    pub kept_terms : length form.terms ≤ kept
+    kept_terms = omega (arith, so_far.rest, rest_before)
 
     -- a form that stays
-    pub IsTally-kept : (more : ℕ) → q ≡ form → has_large_coefficient form ≡ false → has_large_constant form ≡ false → more ≡ min (terms + length form.terms) 4000001 → IsTally states serial new (i + 1) changes overflows more
-    IsTally-kept more is small constant count = record {
+    pub IsTally-kept : q ≡ form → has_large_coefficient form ≡ false → has_large_constant form ≡ false → IsTally states serial new (i + 1) changes overflows kept made
+    IsTally-kept is small constant = record {
       small = small_next (ap has_large_coefficient is ∙ small);
       overflow = overflow_next overflows (sym (ap (λ b. overflows || b) (ap has_large_constant is ∙ constant) ∙ or_false_right overflows));
       applied = λ fits. applied_before fits ∙ ap (λ f. done ++ Some f ∷ drop (i + 1) states) (sym is) ∙ applied_next;
-      counted = λ fits. counted_next fits more (count ∙ ap (λ f. min (terms + length f.terms) 4000001) (sym is));
-      bounded = omega (arith, count);
+      counted = λ fits.
+          let before = so_far.counted fits in
+          let same : length q.terms ≡ length form.terms = ap (λ p. length p.terms) is in
+          record { changed = before.changed; made_is = before.made_is; total_is = let total = before.total_is in omega (arith, total, same, rest_before, count_next) };
+      rest = omega (arith, so_far.rest, rest_before);
+      few = so_far.few;
+      bounded = so_far.bounded;
       within = so_far.within;
     }
 
     -- a form that is another one now; where the new form itself overflows, it may be any
-    pub IsTally-changed : (f : LinearForm) (more : ℕ) → has_large_coefficient q ≡ false → (overflows ≡ false → (f ≡ q) × (has_large_constant q ≡ false)) → more ≡ min (terms + length f.terms) 4000001 →
-        IsTally states serial new (i + 1) (changes ++ record { index = i; form = f } ∷ []) overflows more
-    IsTally-changed f more small is count = record {
+    pub IsTally-changed : (f : LinearForm) (less more : ℕ) → has_large_coefficient q ≡ false → (overflows ≡ false → (f ≡ q) × (has_large_constant q ≡ false)) →
+        less ≡ kept - length form.terms → more ≡ min (made + length f.terms) 4000001 →
+        IsTally states serial new (i + 1) (changes ++ record { index = i; form = f } ∷ []) overflows less more
+    IsTally-changed f less more small is fewer count = record {
       small = small_next small;
       overflow = overflow_next overflows (stays_by overflows (has_large_constant q) (λ fits. (is fits).1));
       applied = λ fits.
@@ -237,19 +287,32 @@ module _ (states : States) (serial : ℕ) (new : LinearForm) (i : ℕ) (changes 
           ∙ set-seam done (drop (i + 1) states) (Some form) (Some f) i length_done
           ∙ ap (λ f. done ++ Some f ∷ drop (i + 1) states) (is fits).0
           ∙ applied_next;
-      counted = λ fits. counted_next fits more (count ∙ ap (λ f. min (terms + length f.terms) 4000001) (is fits).0);
+      counted = λ fits.
+          let before = so_far.counted fits in
+          let same : length f.terms ≡ length q.terms = ap (λ p. length p.terms) (is fits).0 in
+          let made_before = before.made_is in
+          let total = before.total_is in
+          record {
+            changed = before.changed + length q.terms;
+            made_is = omega (arith, count, same, made_before);
+            total_is = omega (arith, fewer, kept_terms, total, rest_before, count_next);
+          };
+      rest = omega (arith, fewer, so_far.rest, rest_before);
+      few = omega (arith, fewer, so_far.few);
       bounded = omega (arith, count);
       within = All-append (λ change. change.index < length states) changes (record { index = i; form = f } ∷ []) so_far.within
           (All-cons (λ change. change.index < length states) (record { index = i; form = f }) [] at (All-nil (λ change. change.index < length states)));
     }
 
     -- a form that overflows
-    pub IsTally-overflows : has_large_coefficient q ≡ false → (overflows ≡ false → has_large_constant q ≡ true) → IsTally states serial new (i + 1) changes true terms
+    pub IsTally-overflows : has_large_coefficient q ≡ false → (overflows ≡ false → has_large_constant q ≡ true) → IsTally states serial new (i + 1) changes true kept made
     IsTally-overflows small large = record {
       small = small_next small;
       overflow = overflow_next true (grows_by overflows (has_large_constant q) large);
       applied = λ fits. absurd cc;
       counted = λ fits. absurd cc;
+      rest = omega (arith, so_far.rest, rest_before);
+      few = so_far.few;
       bounded = so_far.bounded;
       within = so_far.within;
     }

@@ -1,10 +1,10 @@
 -- One equation, in a form that was brought up to date and is to be 0: which unknown it makes dependent, and on what.
 -- After Knuth, METAFONT: The Program, part 29 (linear equations); the rule at a tie, the threshold and the refusals are this project's own.
-use Rattle.std.specs.Prelude.{◌≡◌, ◌≤◌, ◌<◌, ℕ, ◌-◌, ◌^◌, ℤ, pos, neg_ℤ, ◌+ℤ◌, unsigned_abs, List, [], ◌∷◌, Option, Some, None, Bool, not, cond, nat_eq, nat_lt, nat_le, map, filter, find, filter_map, option_map, sum_by, length, slice_set}
+use Rattle.std.specs.Prelude.{◌≡◌, ◌≤◌, ◌<◌, ℕ, ◌-◌, ◌^◌, ℤ, pos, neg_ℤ, ◌+ℤ◌, unsigned_abs, List, [], ◌∷◌, Option, Some, None, Bool, not, cond, nat_eq, nat_lt, nat_le, map, filter, find, filter_map, option_map, sum_by, length, slice_set, Any, IsSomeAnd}
 use Rattle.std.specs.List.{list_any, best_of}
 use Rattle.mp_pool.specs.declared.Term.{Term}
 use Rattle.mp_forms.specs.Ratios.{ratio_times, times_fraction}
-use Rattle.mp_forms.specs.Terms.{changed_terms, sum_terms, is_too_large}
+use Rattle.mp_forms.specs.Terms.{changed_terms, sum_terms, is_too_large, HasTooLarge}
 use Rattle.mp_forms.specs.Forms.{LinearForm}
 use Rattle.mp_solver.specs.declared.equated.Equated.{Equated}
 use Rattle.mp_solver.specs.declared.equated.Equated.TheVariants.{Accepted, Redundant, Inconsistent, CoefficientTooLarge, Overflow, Limit}
@@ -94,3 +94,35 @@ IsRedundant residual r = (residual.terms ≡ []) × (residual.constant ≡ r) ×
 -- an equation that is off by this difference
 abbrev pub IsInconsistent : LinearForm → ℤ → Type 0
 IsInconsistent residual r = (residual.terms ≡ []) × (residual.constant ≡ r) × (64 < unsigned_abs r)
+
+-- the states after an equation is solved for its pivot, within the limits or not; none where no unknown is left in it
+abbrev pub solution_states : States → LinearForm → Option States
+solution_states states residual = option_map (λ pivot. solved_states states pivot (solved_for pivot residual)) (pivot_of residual.terms)
+
+-- some form has a coefficient of magnitude 2^44 or more
+abbrev pub HasLargeCoefficient : States → Type 0
+HasLargeCoefficient states = Any (λ p. HasTooLarge p.terms) (forms_in states)
+
+-- some form has a constant of magnitude 2^31 or more
+abbrev pub HasLargeConstant : States → Type 0
+HasLargeConstant states = Any (λ p. 2 ^ 31 ≤ unsigned_abs p.constant) (forms_in states)
+
+-- the forms have more than 4,000,000 terms
+abbrev pub HasManyTerms : States → Type 0
+HasManyTerms states = 4000000 < term_count states
+
+-- an equation by which a coefficient would become too large
+abbrev pub IsTooLarge : States → LinearForm → Type 0
+IsTooLarge states residual = IsSomeAnd (solution_states states residual) HasLargeCoefficient
+
+-- an equation by which a constant, and no coefficient, would become too large
+abbrev pub IsOverflow : States → LinearForm → Type 0
+IsOverflow states residual = IsSomeAnd (solution_states states residual) (λ after. (¬ HasLargeCoefficient after) × HasLargeConstant after)
+
+-- an equation by which there would be too many terms, and no number would become too large
+abbrev pub IsBeyondLimit : States → LinearForm → Type 0
+IsBeyondLimit states residual = IsSomeAnd (solution_states states residual) (λ after. (¬ HasLargeCoefficient after) × (¬ HasLargeConstant after) × HasManyTerms after)
+
+-- an equation that an unknown is left in, and after which all is within the limits
+abbrev pub IsAccepted : States → LinearForm → Type 0
+IsAccepted states residual = IsSomeAnd (solution_states states residual) (λ after. (¬ HasLargeCoefficient after) × (¬ HasLargeConstant after) × (¬ HasManyTerms after))

@@ -7,4 +7,4 @@ use Rattle.mp_solver.specs.declared.state.State.TheVariants.{Independent, Depend
 -- the form that the unknown equals, where it is dependent
 abbrev pub form_in : State → Option LinearForm
 form_in Independent = None
-form_in (Dependent form) = Some form.now
+form_in (Dependent form) = Some form

@@ -6,3 +6,4 @@ pub mod Replay
 pub mod Ready
 pub mod Solved
 pub mod Known
+pub mod Places

@@ -1,9 +1,10 @@
-use mp_forms::Form;
+use crate::FormView;
 
 /// What is known of an unknown.
+#[derive(Debug, Drop)]
 pub enum State<'a> {
     /// Nothing: it is independent.
     Independent,
     /// It equals this form, in which no dependent unknown occurs.
-    Dependent(&'a Form),
+    Dependent(FormView<'a>),
 }

@@ -1,17 +1,19 @@
 //! All unknowns, and what is known of them.
 
-ghost use Rattle.std.specs.Prelude.{ℤ, ◌≡◌, ◌≢◌, ◌↔◌, ◌+◌, ◌-◌, ◌<◌, ◌≤◌, ◌^◌, min, [], None, length, slice_set, option_copied, IfOk, OnErr, IsTrue};
+ghost use Rattle.std.specs.Prelude.{ℤ, ◌≡◌, ◌≢◌, ◌↔◌, ◌+◌, ◌-◌, ◌<◌, ◌≤◌, ◌^◌, min, [], None, length, slice_set, slice_index_or, option_copied, IfOk, OnErr, IsTrue};
 ghost use Rattle.mp_solver.specs.States.{form_of, name_of, fresh_of, IsSerial, IsOver};
 ghost use Rattle.mp_solver.specs.Known.{form_in};
 ghost use Rattle.mp_solver.specs.Reduction.{independent_part, reduce_of};
-ghost use Rattle.mp_solver.specs.Elimination.{forms_in, eliminate, pivot_of, solved_for, IsRedundant, IsInconsistent};
+ghost use Rattle.mp_solver.specs.Elimination.{forms_in, eliminate, pivot_of, solved_for, IsRedundant, IsInconsistent, IsTooLarge, IsOverflow, IsBeyondLimit, IsAccepted};
 ghost use Rattle.mp_solver.specs.Solved.{IsReduced};
 ghost use Rattle.mp_solver.specs.Solution.{IsSolution};
+ghost use Rattle.mp_solver.specs.Places.{AreHolders};
 ghost use Rattle.mp_solver.specs.Ready.{prepared, IsResidual};
 
 use crate::change::{Change, apply};
+use crate::places::{Places, all_places, make_room};
 use crate::solution::{Replacement, Solution, judged, pivot_of, solved_for, with_replaced};
-use crate::{Equated, Fresh, State};
+use crate::{Equated, FormView, Fresh, State};
 use mp_forms::{Form, FormFault};
 use mp_pool::Term;
 use mp_scaled::{Bytes, NoMemory};
@@ -29,17 +31,22 @@ pub struct System {
     names: Vec<Option<Bytes>>,
     dependent: usize,
     terms: usize,
+    /// For each unknown the places of the forms that it may occur in.
+    holders: Vec<Places>,
+    /// Whether no form is missing there. `ready` makes room for what its equation adds, so only a `Ready` of
+    /// another system with the same value can find none. Then each equation looks at all forms.
+    is_listed: bool,
 }
 
 impl Model for System {
     ghost use Rattle.mp_solver.specs.States.{Unknowns};
-    ghost use Rattle.mp_solver.specs.Solved.{IsKept};
+    ghost use Rattle.mp_solver.specs.Places.{IsIndexed};
 
     ghost Value = { Unknowns };
 
     ghost view = { λ system. record { states = system.states.items; names = system.names.items } };
 
-    ghost invariant = { λ system. IsKept system.states.items system.names.items system.dependent system.terms };
+    ghost invariant = { λ system. IsIndexed system.states.items system.names.items system.dependent system.terms system.holders.items system.is_listed };
 }
 
 /// An equation that was brought up to date, with all that it needs to be taken.
@@ -80,6 +87,8 @@ impl System {
             names: Vec::new(alloc),
             dependent: 0,
             terms: 0,
+            holders: Vec::new(alloc),
+            is_listed: true,
         }
     }
 
@@ -92,9 +101,12 @@ impl System {
         if self.states.len() >= UNKNOWN_LIMIT {
             return Ok(Fresh::Limit);
         }
-        let name = Bytes::copy_of(*self.states.allocator(), name)?;
+        let alloc = *self.states.allocator();
+        let name = Bytes::copy_of(alloc, name)?;
         self.states.reserve(1)?;
+        self.holders.reserve(1)?;
         self.names.push(Some(name))?;
+        self.holders.push(Places::new(alloc))?;
         self.states.push(None)?;
         Ok(Fresh::Made(self.states.len() as u32))
     }
@@ -132,13 +144,20 @@ impl System {
         form.terms().iter().all(|t| 1 <= t.serial && t.serial as usize <= self.states.len())
     }
 
+    /// Whether there is an unknown with this serial.
+    pub fn has_unknown(&self, serial: u32) -> bool
+        ensures { IsTrue result ↔ IsSerial self.now.states serial }
+    {
+        1 <= serial && serial as usize <= self.states.len()
+    }
+
     /// What is known of an unknown.
     pub fn state(&self, serial: u32) -> State<'_>
         requires { IsSerial self.now.states serial }
         ensures { form_in result ≡ form_of self.now.states serial }
     {
         match self.form_of(serial) {
-            Some(form) => State::Dependent(form),
+            Some(form) => State::Dependent(FormView::of(form)),
             None => State::Independent,
         }
     }
@@ -203,6 +222,10 @@ impl System {
         ensures names { self.new.names ≡ self.old.names }
         ensures redundant { (r : ℤ) → (result ≡ Equated.Redundant r) ↔ IsRedundant ready.residual r }
         ensures inconsistent { (r : ℤ) → (result ≡ Equated.Inconsistent r) ↔ IsInconsistent ready.residual r }
+        ensures too_large { (result ≡ Equated.CoefficientTooLarge) ↔ IsTooLarge self.old.states ready.residual }
+        ensures overflow { (result ≡ Equated.Overflow) ↔ IsOverflow self.old.states ready.residual }
+        ensures limit { (result ≡ Equated.Limit) ↔ IsBeyondLimit self.old.states ready.residual }
+        ensures accepted { (result ≡ Equated.Accepted) ↔ IsAccepted self.old.states ready.residual }
         ensures refused { result ≢ Equated.Accepted → self.new ≡ self.old }
     {
         self.take(ready)
@@ -220,12 +243,26 @@ impl System {
             changes,
             terms,
         } = ready;
-        apply(&mut self.states, changes);
+        let pivot = changes.last().map(|last| last.index);
+        let listed = apply(&mut self.states, &mut self.holders, changes);
+        self.is_listed &= listed;
         if let Equated::Accepted = answer {
             self.dependent += 1;
             self.terms = terms;
         }
+        if let Some(place) = pivot {
+            self.forget_holders(place);
+        }
         answer
+    }
+
+    /// Frees the list of a dependent unknown, which no form holds any more.
+    fn forget_holders(&mut self, place: usize)
+        ensures { self.new ≡ self.old }
+    {
+        if self.form_at(place).is_some() {
+            self.holders[place] = Places::new(*self.states.allocator());
+        }
     }
 
     /// Brings an equation up to date, given as its left side minus its right, and makes all that it needs.
@@ -239,7 +276,11 @@ impl System {
     {
         let alloc = *self.states.allocator();
         match self.up_to_date(alloc, form)? {
-            Ok(residual) => Ok(Ok(self.eliminated(alloc, &residual)?)),
+            Ok(residual) => {
+                let ready = self.eliminated(alloc, &residual)?;
+                self.make_room(&ready)?;
+                Ok(Ok(ready))
+            }
             Err(fault) => Ok(Err(fault)),
         }
     }
@@ -271,16 +312,22 @@ impl System {
         requires solution { IsSolution solution (solved_for pivot residual.now) }
         ensures { IfOk result (λ ready. ready ≡ record { residual = residual.now; made_for = self.now }) }
     {
+        let places = self.places_of(alloc, pivot.serial)?;
         let mut changes = Vec::new(alloc);
         let mut overflows = solution.overflows;
-        let mut terms = limited(0, solution.form.terms().len());
-        'states: for (index, state) in self.states.iter().enumerate() {
-            if let Some(form) = state {
-                match with_replaced(alloc, pivot.serial, &solution.form, form)? {
-                    Replacement::Kept => terms = limited(terms, form.terms().len()),
+        let mut kept = self.terms;
+        let mut made = limited(0, solution.form.terms().len());
+        'places: for place in &places {
+            if let Some(old) = self.form_at(*place) {
+                match with_replaced(alloc, pivot.serial, &solution.form, old)? {
+                    Replacement::Kept => {}
                     Replacement::Changed(form) => {
-                        terms = limited(terms, form.terms().len());
-                        changes.push(Change { index, form })?;
+                        kept -= old.terms().len();
+                        made = limited(made, form.terms().len());
+                        changes.push(Change {
+                            index: *place,
+                            form,
+                        })?;
                     }
                     Replacement::Overflows => overflows = true,
                     Replacement::TooLarge => {
@@ -292,7 +339,7 @@ impl System {
         if overflows {
             return Ok(self.refused(alloc, residual, Equated::Overflow));
         }
-        if terms > TERM_LIMIT {
+        if kept + made > TERM_LIMIT {
             return Ok(self.refused(alloc, residual, Equated::Limit));
         }
         changes.push(Change {
@@ -304,8 +351,38 @@ impl System {
             made_for: Snapshot::of(self),
             answer: Equated::Accepted,
             changes,
-            terms,
+            terms: kept + made,
         })
+    }
+
+    /// The form at a place.
+    fn form_at(&self, place: usize) -> Option<&Form>
+        ensures { option_copied result ≡ slice_index_or self.now.states place None }
+    {
+        self.states.get(place)?.as_ref()
+    }
+
+    /// The places of the forms that may hold an unknown, in order.
+    fn places_of(&self, alloc: Global, serial: u32) -> Result<Vec<usize>, NoMemory>
+        requires { IsSerial self.now.states serial }
+        ensures { IfOk result (λ places. AreHolders self.now.states serial 0 places.items) }
+    {
+        if self.is_listed {
+            self.holders[serial as usize - 1].in_order(alloc)
+        } else {
+            all_places(alloc, self.states.len())
+        }
+    }
+
+    /// Makes room for the places that an equation adds: each unknown in the pivot's new form, which is the
+    /// last, may come into each form that changes.
+    fn make_room(&mut self, ready: &Ready) -> Result<(), NoMemory>
+        ensures { self.new ≡ self.old }
+    {
+        if let Some(last) = ready.changes.last() {
+            make_room(&mut self.holders, last.form.terms(), ready.changes.len())?;
+        }
+        Ok(())
     }
 
     /// An equation that is not accepted.

@@ -1,4 +1,4 @@
-use crate::{Equated, Fresh, System};
+use crate::{Equated, Fresh, State, System};
 use mp_forms::Form;
 use std::alloc::Global;
 use std::test::Fail;
@@ -128,11 +128,87 @@ fn residuals(rt: HostRuntime) -> Result<(), Fail> {
     Ok(())
 }
 
+/// What is known of an unknown: its form, or that it is independent.
+fn state_is(system: &System, serial: u32, want: Option<Plain>) -> bool {
+    if !system.has_unknown(serial) {
+        return false;
+    }
+    match (system.state(serial), want) {
+        (State::Independent, None) => true,
+        (State::Dependent(form), Some((constant, terms))) => {
+            form.constant() == constant
+                && form.terms().count() == terms.len()
+                && form.terms().zip(terms).all(|(term, want)| term.serial == want.0
+                    && term.coefficient == want.1)
+        }
+        _ => false,
+    }
+}
+
+/// Whether the equations are accepted, and leave that of two unknowns.
+fn leaves(
+    alloc: Global,
+    equations: &[(Plain, Equated)],
+    states: [Option<Plain>; 2],
+) -> Result<bool, Fail> {
+    let Some(system) = after(alloc, equations)? else {
+        return Ok(false);
+    };
+    Ok(state_is(&system, 1, states[0]) && state_is(&system, 2, states[1]))
+}
+
+#[test]
+fn states(rt: HostRuntime) -> Result<(), Fail> {
+    let alloc = rt.alloc();
+    // 2x+y=3; y=1
+    let twice: (Plain, Equated) = ((-196608, &[(1, 2 * ONE), (2, ONE)]), Equated::Accepted);
+    let one: (Plain, Equated) = ((-65536, &[(2, ONE)]), Equated::Accepted);
+    assert!(rt; leaves(alloc, &[], [None, None])?);
+    assert!(rt; leaves(alloc, &[twice], [Some((98304, &[(2, -ONE / 2)])), None])?);
+    assert!(rt;
+        leaves(
+            alloc,
+            &[twice, one],
+            [Some((65536, &[])), Some((65536, &[]))]
+        )?
+    );
+    Ok(())
+}
+
+/// The name of an unknown, where there is such an unknown.
+fn name_of(system: &System, serial: u32) -> Option<&[u8]> {
+    if system.has_unknown(serial) {
+        system.name(serial)
+    } else {
+        None
+    }
+}
+
+fn unname(system: &mut System, serial: u32) {
+    if system.has_unknown(serial) {
+        system.unname(serial);
+    }
+}
+
 #[test]
 fn names(rt: HostRuntime) -> Result<(), Fail> {
     let mut system = System::new(rt.alloc());
-    let made = system.fresh(b"x")?;
-    assert_eq!(rt; made, Fresh::Made(1));
+    for (name, serial) in [("x", 1), ("y", 2), ("", 3), ("x", 4)] {
+        assert_eq!(rt; system.fresh(name.as_bytes())?, Fresh::Made(serial));
+    }
+    for serial in [0, 2, 2, 5] {
+        unname(&mut system, serial);
+    }
+    for (serial, name) in [
+        (0, None),
+        (1, Some("x")),
+        (2, None),
+        (3, Some("")),
+        (4, Some("x")),
+        (5, None),
+    ] {
+        assert!(rt; name_of(&system, serial) == name.map(|name| name.as_bytes()));
+    }
     Ok(())
 }
 
@@ -144,6 +220,16 @@ fn step_of(alloc: Global, serial: u32) -> Result<Form, Fail> {
     Ok(form.add_times(alloc, -ONE, &before)??)
 }
 
+/// The number that an unknown equals, where that is known.
+fn value_of(alloc: Global, system: &System, serial: u32) -> Result<Option<i32>, Fail> {
+    let form = Form::unknown(alloc, serial)?;
+    if !system.has_unknowns_of(&form) {
+        return Ok(None);
+    }
+    let form = system.reduce(alloc, &form)??;
+    Ok(form.terms().is_empty().then_some(form.constant()))
+}
+
 #[test]
 fn a_chain_of_2000_equations(rt: HostRuntime) -> Result<(), Fail> {
     let alloc = rt.alloc();
@@ -152,9 +238,11 @@ fn a_chain_of_2000_equations(rt: HostRuntime) -> Result<(), Fail> {
         let form = step_of(alloc, serial)?;
         assert_eq!(rt; equated(&mut system, &form)?, Some(Equated::Accepted));
     }
-    let first = form_of(alloc, (0, &[(1, ONE)]))?;
+    let first = form_of(alloc, X)?;
     assert_eq!(rt; equated(&mut system, &first)?, Some(Equated::Accepted));
     assert_eq!(rt; system.changes(), 4002);
-    assert!(rt; reduces_to(alloc, &system, (0, &[(2001, ONE)]), (2000, &[]))?);
+    for serial in 1..=2001 {
+        assert_eq!(rt; value_of(alloc, &system, serial)?, Some(serial as i32 - 1));
+    }
     Ok(())
 }
