@@ -109,6 +109,16 @@ impl Form {
         Form { constant, terms }
     }
 
+    /// The form once more.
+    pub fn copy(&self, alloc: Global) -> Result<Form, NoMemory>
+        ensures { IfOk result (λ copy. copy ≡ self.now) }
+    {
+        Ok(Form {
+            constant: self.constant,
+            terms: Vec::from_slice(alloc, &self.terms)?,
+        })
+    }
+
     /// The constant, in units of 2^-16.
     pub fn constant(&self) -> i32
         ensures { result ≡ self.now.constant }

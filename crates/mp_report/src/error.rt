@@ -94,6 +94,6 @@ pub enum SourceError {
     UserError(Bytes),
     /// More of these than the number that is allowed.
     Limit(Cap, u32),
-    /// A word of the language that is refused.
+    /// A word of the language that is not built, or a form of the language or a size that is not.
     NotBuilt(Bytes),
 }

@@ -1,0 +1,43 @@
+//! The items of a text.
+
+ghost use Rattle.std.specs.Prelude.{◌≡◌, IfOk};
+ghost use Rattle.mp_values.specs.Items.{item_of};
+
+use crate::Scaled;
+use mp_report::Place;
+use mp_scaled::{NoMemory, SharedSlice};
+use mp_tokens::{BadToken, Token};
+
+/// A piece of a text.
+#[derive(Debug, Drop)]
+pub enum Item {
+    /// The symbol of that number in the table of names.
+    Symbol(u32),
+    /// A number that is not negative.
+    Number(Scaled),
+    /// A string, by its bytes.
+    Text(SharedSlice<u8>),
+    /// Bytes that make no token.
+    Bad(BadToken),
+    /// The end of a line.
+    LineEnd(Place),
+    /// The end of a file.
+    FileEnd,
+    /// The end of the whole text.
+    EndOfText,
+}
+
+impl Item {
+    /// A token of that file as an item; a string is shared.
+    pub fn of(file: u32, token: &Token) -> Result<Item, NoMemory>
+        ensures { IfOk result (λ item. item ≡ item_of file token.now) }
+    {
+        match token {
+            Token::Sym(symbol) => Ok(Item::Symbol(*symbol)),
+            Token::Num(value) => Ok(Item::Number(Scaled::new(*value))),
+            Token::Text(bytes) => Ok(Item::Text(bytes.share()?)),
+            Token::Bad(cause) => Ok(Item::Bad(*cause)),
+            Token::LineEnd(line) => Ok(Item::LineEnd(Place { file, line: *line })),
+        }
+    }
+}

@@ -1,0 +1,23 @@
+//! What a run is made of: values, words and meanings, the items of a text, and why a run stops.
+//!
+//! A value is a number that may be a linear form of unknowns, a string, a truth, or nothing (Hobby, A User's
+//! Manual for MetaPost, section 5). A symbol means a word of the language, a variable's tag, an internal or a
+//! delimiter (Knuth, METAFONT: The Program, part 13).
+#![tactic(auto)]
+
+mod item;
+mod meaning;
+mod scaled;
+mod stop;
+mod value;
+mod word;
+
+pub use item::Item;
+pub use meaning::{Delimiters, Meaning, UnbuiltWord};
+pub use scaled::Scaled;
+pub use stop::Stop;
+pub use value::{Kind, Value};
+pub use word::{Command, Word};
+
+#[cfg(test)]
+mod tests;
