@@ -1,0 +1,107 @@
+-- What an equation leaves: forms over the same unknowns, and a state that is changed only where it was accepted.
+use Rattle.std.proofs.Common.{◌≡◌, ℕ, ◌-◌, ◌≤◌, Bool, true, false, not, cond, nat_lt, nat_eq, List, Option, Some, None, Result, Ok, Err, map, length, refl, sym, ap, subst, ◌∙◌, arith}
+use Rattle.std.specs.List.{All, list_any}
+use Rattle.std.specs.Option.{option_map}
+use Rattle.std.proofs.lemmas.List.{length-map, length-set}
+use Rattle.std.proofs.lemmas.List.Elements.{All-map, All-set, All-weaker}
+use Rattle.mp_pool.specs.declared.Term.{Term}
+use Rattle.mp_forms.specs.Ratios.{times_fraction}
+use Rattle.mp_forms.specs.Forms.{LinearForm}
+use Rattle.mp_solver.specs.States.{States, Unknowns}
+use Rattle.mp_solver.specs.Ready.{Prepared, prepared}
+use Rattle.mp_forms.specs.declared.fault.FormFault.{FormFault}
+use Rattle.mp_solver.specs.Elimination.{without, term_of, over_negative, solved_for, replaced, replaced_term, solved_states, forms_in, has_large_coefficient, has_large_constant, term_count, eliminate_by, eliminate, pivot_of}
+use Rattle.mp_solver.specs.declared.equated.Equated.{Equated}
+use Rattle.mp_solver.specs.declared.equated.Equated.TheVariants.{Accepted, CoefficientTooLarge, Overflow, Limit}
+use Rattle.mp_acts.specs.declared.variable.Variable.{Variable}
+use Rattle.mp_acts.specs.Reach.{reach_of_form, reach_of_known, reach_of_variable, AreWithin}
+use Rattle.mp_acts.proofs.ReachLemmas.{reach-filter, reach-changed, reach-sum}
+
+module _ (n : ℕ) where
+  solved_within : (pivot : Term) (p : LinearForm) → reach_of_form p ≤ n → reach_of_form (solved_for pivot p) ≤ n
+  solved_within pivot p h =
+      omega (arith, reach-changed (over_negative pivot.coefficient) (without pivot.serial p.terms), reach-filter (λ t. not (nat_eq t.serial pivot.serial)) p.terms)
+
+  replaced_by : (serial : ℕ) (new p : LinearForm) (t : Option Term) → reach_of_form new ≤ n → reach_of_form p ≤ n → reach_of_form (replaced_term serial new p t) ≤ n
+  replaced_by serial new p None hn hp = hp
+  replaced_by serial new p (Some t) hn hp =
+      omega (arith, reach-sum (times_fraction t.coefficient) (without serial p.terms) new.terms, reach-filter (λ t. not (nat_eq t.serial serial)) p.terms)
+
+  known_within : (serial : ℕ) (new : LinearForm) (known : Option LinearForm) → reach_of_form new ≤ n → reach_of_known known ≤ n → reach_of_known (option_map (replaced serial new) known) ≤ n
+  known_within serial new None hn h = h
+  known_within serial new (Some p) hn h = replaced_by serial new p (term_of serial p.terms) hn h
+
+  states_within : (states : States) (pivot : Term) (new : LinearForm) → reach_of_form new ≤ n → All (λ known. reach_of_known known ≤ n) states
+      → All (λ known. reach_of_known known ≤ n) (solved_states states pivot new)
+  states_within states pivot new hn forms =
+      All-set (λ known. reach_of_known known ≤ n) (map (option_map (replaced pivot.serial new)) states) (pivot.serial - 1) (Some new) hn
+      (All-map (λ known. reach_of_known known ≤ n) (option_map (replaced pivot.serial new)) states
+      (All-weaker (λ known. reach_of_known known ≤ n) (λ known. reach_of_known (option_map (replaced pivot.serial new) known) ≤ n)
+      (λ known h. known_within pivot.serial new known hn h) states forms))
+
+length-solved : (states : States) (pivot : Term) (new : LinearForm) → length (solved_states states pivot new) ≡ length states
+length-solved states pivot new = length-set (map (option_map (replaced pivot.serial new)) states) (pivot.serial - 1) (Some new) ∙ length-map states (option_map (replaced pivot.serial new))
+
+-- what holds of the states before and after an equation holds of those that it leaves
+limits_keep : (P : States → Type 0) (before after : States) (large constant many : Bool) → P before → P after
+    → P (cond {A = Equated × States} large (CoefficientTooLarge, before) (cond constant (Overflow, before) (cond many (Limit, before) (Accepted, after)))).1
+limits_keep P before after true constant many hb ha = hb
+limits_keep P before after false true many hb ha = hb
+limits_keep P before after false false true hb ha = hb
+limits_keep P before after false false false hb ha = ha
+
+eliminate_keeps : (P : States → Type 0) (states : States) (residual : LinearForm) (pivot : Option Term) → P states
+    → ((t : Term) → P (solved_states states t (solved_for t residual))) → P (eliminate_by states residual pivot).1
+eliminate_keeps P states residual None hs ha = hs
+eliminate_keeps P states residual (Some t) hs ha =
+    limits_keep P states (solved_states states t (solved_for t residual))
+    (list_any has_large_coefficient (forms_in (solved_states states t (solved_for t residual))))
+    (list_any has_large_constant (forms_in (solved_states states t (solved_for t residual))))
+    (nat_lt 4000000 (term_count (solved_states states t (solved_for t residual)))) hs (ha t)
+
+-- the states are as many, and speak of no other unknowns
+record IsLike (states after : States) : Type 0 where
+  length_is : length after ≡ length states
+  forms : All (λ known. reach_of_known known ≤ length states) after
+
+eliminate_like : (states : States) (residual : LinearForm) → All (λ known. reach_of_known known ≤ length states) states → reach_of_form residual ≤ length states
+    → IsLike states (eliminate states residual).1
+eliminate_like states residual forms h =
+    eliminate_keeps (IsLike states) states residual (pivot_of residual.terms) (record { length_is = refl; forms = forms })
+    (λ t. record {
+      length_is = length-solved states t (solved_for t residual);
+      forms = states_within (length states) states t (solved_for t residual) (solved_within (length states) t residual h) forms;
+    })
+
+-- the invariant of a state holds after an equation
+pub record Keeps (before after : States) (variables : List Variable) : Type 0 where
+  pub length_is : length after ≡ length before
+  pub within : AreWithin after variables
+
+pub equation_keeps : (states after : States) (variables : List Variable) (residual : LinearForm) (answer : Equated) → AreWithin states variables
+    → reach_of_form residual ≤ length states → (answer, after) ≡ eliminate states residual → Keeps states after variables
+equation_keeps states after variables residual answer is h e =
+    let same : after ≡ (eliminate states residual).1 = ap (λ pair. pair.1) e in
+    let like = eliminate_like states residual is.forms h in
+    let count : length after ≡ length states = ap length same ∙ like.length_is in
+    let forms : All (λ known. reach_of_known known ≤ length states) after = subst (λ (l : States). All (λ known. reach_of_known known ≤ length states) l) (sym same) like.forms in
+    record {
+      length_is = count;
+      within = record {
+        few = omega (arith, is.few);
+        forms = All-weaker (λ known. reach_of_known known ≤ length states) (λ known. reach_of_known known ≤ length after) (λ known h. omega arith) after forms;
+        held = All-weaker (λ v. reach_of_variable v ≤ length states) (λ v. reach_of_variable v ≤ length after) (λ v h. omega arith) variables is.held;
+      };
+    }
+
+-- a difference that is prepared was brought up to date, and one that is refused was not
+pub prepared_err : (unknowns : Unknowns) (r : Result LinearForm FormFault) (fault : FormFault) (answer : Result Prepared FormFault) → answer ≡ Err fault → answer ≡ prepared unknowns r → r ≡ Err fault
+prepared_err unknowns (Ok p) fault answer e prepared_is = cc
+prepared_err unknowns (Err other) fault answer e prepared_is = cc
+
+same_answer : (answer : Result Prepared FormFault) (a b : Prepared) → answer ≡ Ok a → answer ≡ Ok b → a ≡ b
+same_answer answer a b e f = cc
+
+pub prepared_ok : (unknowns : Unknowns) (r : Result LinearForm FormFault) (ready : Prepared) (answer : Result Prepared FormFault) → answer ≡ Ok ready → answer ≡ prepared unknowns r → r ≡ Ok ready.residual
+prepared_ok unknowns (Ok p) ready answer e prepared_is = ap (λ x. Ok x.residual) (same_answer answer (record { residual = p; made_for = unknowns }) ready prepared_is e)
+prepared_ok unknowns (Err other) ready answer e prepared_is = cc

@@ -1,0 +1,149 @@
+-- Worked examples: the definitions compute.
+use Rattle.std.proofs.Common.{◌≡◌, ℕ, ℤ, pos, neg_ℤ, List, [], ◌∷◌, Some, None, Ok, Err, refl}
+use Rattle.std.specs.Prelude.{codes}
+use Rattle.std.specs.Fmt.{digits}
+use Rattle.mp_scaled.specs.Print.{digits_within}
+use Rattle.mp_pool.specs.declared.Term.{Term}
+use Rattle.mp_forms.specs.Forms.{LinearForm}
+use Rattle.mp_forms.specs.Terms.{with_term, sum_terms}
+use Rattle.mp_report.specs.declared.error.SourceError.TheVariants as error
+use Rattle.mp_solver.specs.States.{Unknowns}
+use Rattle.mp_values.specs.Outcome.{Outcome, then, change}
+use Rattle.mp_values.specs.Refusals.{wrong_type, not_known}
+use Rattle.mp_values.specs.declared.meaning.Meaning.TheVariants.{NewTag, Tag}
+use Rattle.mp_values.specs.declared.stop.Stop.TheVariants.{Refused}
+use Rattle.mp_values.specs.declared.value.Value.{Value}
+use Rattle.mp_values.specs.declared.value.Value.TheVariants.{Numeric, Text}
+use Rattle.mp_acts.specs.State.{State}
+use Rattle.mp_acts.specs.Operands.{operand}
+use Rattle.mp_acts.specs.Arithmetic.{known_number, difference, difference_by, product}
+use Rattle.mp_acts.specs.Texts.{form_text, more_terms, value_text}
+use Rattle.mp_acts.specs.Lines.{line, show, errmessage}
+use Rattle.mp_acts.specs.Variables.{root_of, assign}
+use Rattle.mp_acts.specs.Equations.{vanish, equation}
+use Rattle.mp_acts.specs.Groups.{open_group, end_group, undo_group, save, let_symbol, interim}
+use Rattle.mp_acts.specs.declared.variable.Variable.{Variable}
+use Rattle.mp_acts.specs.declared.variable.Variable.TheVariants as variable
+use Rattle.mp_acts.specs.declared.variable.Target.TheVariants as target
+
+abbrev term : ℕ → ℤ → Term
+term serial coefficient = record { serial = serial; coefficient = coefficient }
+
+-- 1 as a coefficient
+abbrev one : ℤ
+one = pos 268435456
+
+abbrev form : ℤ → List Term → LinearForm
+form constant terms = record { constant = constant; terms = terms }
+
+-- the unknowns x and y, of the serials 1 and 2
+abbrev x_and_y : Unknowns
+x_and_y = record { states = None ∷ None ∷ []; names = Some (codes "x") ∷ Some (codes "y") ∷ [] }
+
+-- the symbols x and y, their variables as given, and an internal of value 1
+abbrev state : List Variable → Unknowns → State
+state variables unknowns = record {
+  symbols = record { names = (codes "x", Tag 0) ∷ (codes "y", Tag 1) ∷ (codes "z", NewTag) ∷ []; internals = pos 65536 ∷ []; saved = [] };
+  variables = variables;
+  unknowns = unknowns;
+  lines = [];
+}
+
+abbrev start : State
+start = state (variable.Unknown 1 ∷ variable.Unknown 2 ∷ []) x_and_y
+
+abbrev X : Value
+X = Numeric (form (pos 0) (term 1 one ∷ []))
+
+abbrev Y : Value
+Y = Numeric (form (pos 0) (term 2 one ∷ []))
+
+-- texts of forms
+half_and_more : form_text x_and_y (form (pos 98304) (term 2 (neg_ℤ (pos 134217728)) ∷ [])) ≡ codes "-0.5y+1.5"
+unfolding form_text more_terms digits_within digits
+half_and_more = refl
+
+two_terms : form_text x_and_y (form (pos 65536) (term 2 (pos 536870912) ∷ term 1 one ∷ [])) ≡ codes "2y+x+1"
+unfolding form_text more_terms digits_within digits
+two_terms = refl
+
+minus_terms : form_text x_and_y (form (neg_ℤ (pos 65536)) (term 2 (neg_ℤ one) ∷ term 1 (neg_ℤ one) ∷ [])) ≡ codes "-y-x-1"
+unfolding form_text more_terms digits_within digits
+minus_terms = refl
+
+no_terms : form_text x_and_y (form (neg_ℤ (pos 32768)) []) ≡ codes "-0.5"
+unfolding form_text more_terms digits_within digits
+no_terms = refl
+
+no_name : form_text (record { states = None ∷ []; names = None ∷ [] }) (form (pos 0) (term 1 one ∷ [])) ≡ codes "?1"
+unfolding form_text more_terms digits_within digits
+no_name = refl
+
+-- the left operand is refused before the right one
+left_first : product (Text []) (Numeric (form (pos 0) [])) start ≡ Err (wrong_type (codes "*"), start)
+unfolding product
+left_first = refl
+
+unknown_factors : product X Y start ≡ Err (not_known (codes "*"), start)
+unfolding product
+unknown_factors = refl
+
+difference_of_unknowns : difference Y X start ≡ Ok (Numeric (form (pos 0) (term 2 one ∷ term 1 (neg_ℤ one) ∷ [])), start)
+unfolding difference difference_by sum_terms with_term
+difference_of_unknowns = refl
+
+-- x=y, and then x-y is shown as 0
+abbrev equal : State
+equal = record start { unknowns = record x_and_y { states = None ∷ Some (form (pos 0) (term 1 one ∷ [])) ∷ [] } }
+
+equated : equation X Y start ≡ Ok (tt, equal)
+unfolding equation difference_by vanish sum_terms with_term
+equated = refl
+
+shown_up_to_date : show Y equal ≡ Ok (tt, record equal { lines = codes ">> x\n" })
+unfolding show value_text form_text more_terms line digits_within digits sum_terms with_term
+shown_up_to_date = refl
+
+redundant : equation Y X equal ≡ Ok (tt, record equal { lines = codes "## redundant 0\n" })
+unfolding equation difference_by vanish line sum_terms with_term digits_within digits
+redundant = refl
+
+inconsistent : equation (known_number (pos 65536)) (known_number (pos 65601)) start ≡ Err (Refused (error.Inconsistent (neg_ℤ (pos 65))), start)
+unfolding equation difference_by vanish sum_terms
+inconsistent = refl
+
+-- an unknown that is assigned a number has no name any more
+assigned : assign (target.Variable 0) (known_number (pos 65536)) start
+    ≡ Ok (tt, state (variable.Assigned (form (pos 65536) []) ∷ variable.Unknown 2 ∷ []) (record x_and_y { names = None ∷ Some (codes "y") ∷ [] }))
+unfolding assign operand
+assigned = refl
+
+-- a new root, and a new unknown of the symbol's name
+rooted : root_of 2 start ≡ Ok (
+  2,
+  record start {
+    variables = variable.Unknown 1 ∷ variable.Unknown 2 ∷ variable.Unread ∷ [];
+    symbols = record start.symbols { names = (codes "x", Tag 0) ∷ (codes "y", Tag 1) ∷ (codes "z", Tag 2) ∷ [] };
+  },
+)
+unfolding root_of
+rooted = refl
+
+-- what is saved in a group is forgotten at its end, and its unknown has no name
+saved_and_forgotten : end_group (save 0 (open_group start)) ≡ start
+unfolding end_group undo_group save
+saved_and_forgotten = refl
+
+-- a tag's copy is a new tag
+copied_tag : (let_symbol 1 0 start).symbols.names ≡ (codes "x", Tag 0) ∷ (codes "y", NewTag) ∷ (codes "z", NewTag) ∷ []
+unfolding let_symbol
+copied_tag = refl
+
+-- an internal has its old value again
+interim_undone : ◌≡◌ {A = Outcome State (Unit {0})} (then (interim 0 (known_number (pos 0)) (open_group start)) (λ _. change end_group)) (Ok (tt, start))
+unfolding interim operand end_group undo_group
+interim_undone = refl
+
+user_error : errmessage (Text (codes "no")) start ≡ Err (Refused (error.UserError (codes "no")), start)
+unfolding errmessage
+user_error = refl

@@ -1,0 +1,7 @@
+pub mod ReachLemmas
+pub mod Ends
+pub mod EquationLemmas
+pub mod EventLemmas
+mod Examples
+pub mod TableLemmas
+pub mod TextLemmas

@@ -1,0 +1,83 @@
+-- Groups, and the statements that change what symbols mean.
+-- After Hobby, A User's Manual for MetaPost, sections 5 and 10, and Knuth, METAFONT: The Program, part 17.
+use Rattle.std.specs.Prelude.{ℕ, pos, List, [], ◌∷◌, ◌++◌, length, cond, nat_lt, codes}
+use Rattle.mp_symbols.specs.Tables.{Table}
+use Rattle.mp_symbols.specs.Groups as table
+use Rattle.mp_symbols.specs.declared.saved.Saved.{Saved}
+use Rattle.mp_symbols.specs.declared.saved.Saved.TheVariants as saved
+use Rattle.mp_symbols.specs.declared.closed.Closed.{Closed}
+use Rattle.mp_symbols.specs.declared.closed.Closed.TheVariants as closed
+use Rattle.mp_values.specs.Outcome.{Rule, ◌>>=◌, change}
+use Rattle.mp_values.specs.declared.meaning.Meaning.{Meaning}
+use Rattle.mp_values.specs.declared.meaning.Meaning.TheVariants as meaning
+use Rattle.mp_values.specs.declared.value.Value.{Value}
+use Rattle.mp_acts.specs.State.{State, symbol_meaning}
+use Rattle.mp_acts.specs.Operands.{operand, known}
+use Rattle.mp_acts.specs.Variables.{replaced_variable}
+use Rattle.mp_acts.specs.declared.variable.Variable.TheVariants as variable
+
+abbrev pub with_symbols : State → Table Meaning → State
+with_symbols s symbols = record s { symbols = symbols }
+
+-- a group begins
+abbrev pub open_group : State → State
+open_group s = with_symbols s (table.open_group s.symbols)
+
+-- the variable of a tag that is taken away is forgotten
+abbrev pub without_tag : Meaning → State → State
+without_tag (meaning.Tag root) s = replaced_variable s root variable.Unread
+without_tag m s = s
+
+abbrev pub forgotten : Closed Meaning → State → State
+forgotten (closed.Meaning symbol given_up) s = without_tag given_up s
+forgotten other s = s
+
+-- one thing undone
+abbrev pub undone : Saved Meaning → State → State
+undone entry s = let answer = table.undo entry s.symbols in forgotten answer.0 (with_symbols s answer.1)
+
+-- the things of the innermost group undone, the newest first
+unfoldable pub undo_group : List (Saved Meaning) → State → State
+undo_group [] s = s
+undo_group (saved.Boundary ∷ older) s = with_symbols s (record s.symbols { saved = older })
+undo_group (entry ∷ older) s = undo_group older (undone entry (with_symbols s (record s.symbols { saved = older })))
+
+-- a group ends
+unfoldable pub end_group : State → State
+end_group s = undo_group s.symbols.saved s
+
+-- a symbol becomes a new tag, up to the end of the group; a number past the symbols changes nothing
+unfoldable pub save : ℕ → State → State
+save symbol s = with_symbols s (cond (nat_lt symbol (length s.symbols.names)) (table.save s.symbols symbol meaning.NewTag) s.symbols)
+
+-- what a symbol gets that is let have this meaning: a tag's copy is a new tag
+abbrev pub copied : Meaning → Meaning
+copied (meaning.Tag root) = meaning.NewTag
+copied m = m
+
+unfoldable pub let_symbol : ℕ → ℕ → State → State
+let_symbol symbol other s = with_symbols s (table.with_symbol s.symbols symbol (copied (symbol_meaning s other)))
+
+-- two symbols become a pair of delimiters
+unfoldable pub delimiters : ℕ → ℕ → State → State
+delimiters left right s =
+    with_symbols s (table.with_symbol (table.with_symbol s.symbols
+    left (meaning.Left (record { left = left; right = right })))
+    right (meaning.Right (record { left = left; right = right })))
+
+-- a symbol becomes a new internal, of value 0
+unfoldable pub new_internal : ℕ → State → State
+new_internal symbol s =
+    with_symbols s (table.with_symbol (record s.symbols { internals = s.symbols.internals ++ pos 0 ∷ [] })
+    symbol (meaning.Internal (length s.symbols.internals)))
+
+-- the present value of an internal is kept for the end of the group; a number past the internals changes nothing
+abbrev pub with_kept : Table Meaning → ℕ → Table Meaning
+with_kept symbols k = cond (nat_lt k (length symbols.internals)) (table.save_internal symbols k) symbols
+
+-- an internal gets a known value, up to the end of the group
+unfoldable pub interim : ℕ → Value → Rule State (Unit {0})
+interim k v = do
+  p ← operand (codes "interim") v
+  value ← known (codes "interim") p
+  change (λ s. with_symbols s (table.with_internal (with_kept s.symbols k) k value))

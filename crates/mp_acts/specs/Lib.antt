@@ -1,0 +1,12 @@
+pub mod State
+pub mod Reach
+pub mod Operands
+pub mod Arithmetic
+pub mod Texts
+pub mod Lines
+pub mod Variables
+pub mod Equations
+pub mod Events
+pub mod Groups
+pub mod Start
+pub mod Tokens

@@ -1,0 +1,44 @@
+-- Operands: their types, brought up to date, known.
+use Rattle.std.specs.Prelude.{ℕ, ℤ, List, [], ◌∷◌, Result, Ok, Err}
+use Rattle.mp_pool.specs.declared.Term.{Term}
+use Rattle.mp_forms.specs.Forms.{LinearForm}
+use Rattle.mp_forms.specs.declared.fault.FormFault.{FormFault}
+use Rattle.mp_solver.specs.Reduction.{reduce_of}
+use Rattle.mp_values.specs.Outcome.{Rule, ◌>>=◌, give, halt, in_state}
+use Rattle.mp_values.specs.Refusals.{stop_of_form, wrong_type, not_known}
+use Rattle.mp_values.specs.declared.stop.Stop.{Stop}
+use Rattle.mp_values.specs.declared.value.Value.{Value}
+use Rattle.mp_values.specs.declared.value.Value.TheVariants.{Numeric, Text}
+use Rattle.mp_acts.specs.State.{State}
+
+-- the form of a number
+abbrev pub numeric : List ℕ → Value → Rule State LinearForm
+numeric op (Numeric p) = give p
+numeric op v = halt (wrong_type op)
+
+-- the bytes of a string
+abbrev pub text : List ℕ → Value → Rule State (List ℕ)
+text op (Text bytes) = give bytes
+text op v = halt (wrong_type op)
+
+abbrev pub or_refused : Result LinearForm FormFault → Result LinearForm Stop
+or_refused (Ok p) = Ok p
+or_refused (Err fault) = Err (stop_of_form fault)
+
+-- a form in which each unknown that equations have solved for is replaced by what it equals
+abbrev pub up_to_date : LinearForm → Rule State LinearForm
+up_to_date p s = in_state (or_refused (reduce_of s.unknowns.states p)) s
+
+-- the form of a number, brought up to date
+unfoldable pub operand : List ℕ → Value → Rule State LinearForm
+operand op v = do
+  p ← numeric op v
+  up_to_date p
+
+abbrev pub known_by : List ℕ → ℤ → List Term → Rule State ℤ
+known_by op constant [] = give constant
+known_by op constant (t ∷ ts) = halt (not_known op)
+
+-- a number without unknowns, in units of 2^-16
+abbrev pub known : List ℕ → LinearForm → Rule State ℤ
+known op p = known_by op p.constant p.terms

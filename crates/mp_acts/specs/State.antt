@@ -1,0 +1,34 @@
+-- What statements act on.
+use Rattle.std.specs.Prelude.{ℕ, ℤ, pos, List, [], unwrap_or, length, slice_get}
+use Rattle.mp_symbols.specs.Names.{name_in, meaning_in}
+use Rattle.mp_symbols.specs.Tables.{Table}
+use Rattle.mp_solver.specs.States.{Unknowns}
+use Rattle.mp_values.specs.declared.meaning.Meaning.{Meaning}
+use Rattle.mp_values.specs.declared.meaning.Meaning.TheVariants.{NewTag}
+use Rattle.mp_acts.specs.declared.variable.Variable.{Variable}
+
+pub record State : Type 0 where
+  -- names with their meanings, internals, and what the open groups give back
+  pub symbols : Table Meaning
+  -- the variables without a suffix, by their roots
+  pub variables : List Variable
+  -- the unknowns that were made, and what the equations so far say of them
+  pub unknowns : Unknowns
+  -- the lines so far
+  pub lines : List ℕ
+
+-- the number of unknowns that were made
+abbrev pub unknown_count : State → ℕ
+unknown_count s = length s.unknowns.states
+
+-- the name of a symbol
+abbrev pub symbol_name : State → ℕ → List ℕ
+symbol_name s symbol = unwrap_or (name_in s.symbols.names symbol) []
+
+-- the meaning of a symbol
+abbrev pub symbol_meaning : State → ℕ → Meaning
+symbol_meaning s symbol = unwrap_or (meaning_in s.symbols.names symbol) NewTag
+
+-- the value of an internal, in units of 2^-16
+abbrev pub internal_value : State → ℕ → ℤ
+internal_value s k = unwrap_or (slice_get s.symbols.internals k) (pos 0)

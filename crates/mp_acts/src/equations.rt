@@ -1,0 +1,88 @@
+//! Equations between two values.
+
+ghost use Rattle.std.specs.Prelude.{◌≡◌, ◌≢◌, ◌≤◌, Ok, Err, IfOk, IfErr};
+ghost use Rattle.mp_values.specs.Outcome.{Gives};
+ghost use Rattle.mp_values.specs.declared.stop.Stop.TheVariants.{NoMemory};
+ghost use Rattle.mp_acts.specs.State.{unknown_count};
+ghost use Rattle.mp_acts.specs.Reach.{reach, reach_of_form};
+ghost use Rattle.mp_acts.specs.Operands as operands;
+ghost use Rattle.mp_acts.specs.Equations as equations;
+ghost use Rattle.mp_acts.specs.Events.{IsUpToDate};
+
+use crate::State;
+use crate::texts::push_scaled;
+use mp_forms::Form;
+use mp_report::{Cap, SourceError};
+use mp_scaled::Bytes;
+use mp_solver::{Equated, Ready};
+use mp_values::{Stop, Value};
+
+/// The forms of all dependent unknowns may have so many terms.
+const TERM_LIMIT: u32 = 4_000_000;
+
+impl State {
+    /// Makes two numbers equal.
+    #[tactic(auto, unfolding(crate::specs::Equations::equation))]
+    pub fn do_equation(&mut self, left: &Value, right: &Value) -> Result<(), Stop>
+        requires left { reach left.now ≤ unknown_count self.old }
+        requires right { reach right.now ≤ unknown_count self.old }
+        ensures exact { Gives result self.new (equations.equation left.now right.now self.old) }
+        ensures counts { unknown_count self.old ≤ unknown_count self.new }
+    {
+        let rest = self.difference_by(b"=", left, right)?;
+        let ready = self.ready(&rest)?;
+        self.vanish(ready)
+    }
+
+    /// A form brought up to date, with all that it needs to be made 0.
+    fn ready(&mut self, form: &Form) -> Result<Ready, Stop>
+        requires { reach_of_form form.now ≤ unknown_count self.old }
+        ensures ok { IfOk result (λ ready. operands.up_to_date form.now self.old ≡ Ok (ready.residual, self.old)) }
+        ensures err { IfErr result (λ stop. stop ≢ NoMemory → operands.up_to_date form.now self.old ≡ Err (stop, self.old)) }
+        ensures up_to_date { IfOk result (λ ready. IsUpToDate self.old.unknowns.states ready.residual) }
+        ensures made_for { IfOk result (λ ready. ready.made_for ≡ self.old.unknowns) }
+        ensures within { IfOk result (λ ready. reach_of_form ready.residual ≤ unknown_count self.old) }
+        ensures same { self.new ≡ self.old }
+    {
+        // Asked for its contract alone: a form's terms are in order, as an event's have to be.
+        let _terms = form.terms();
+        Ok(self.system.ready(form)??)
+    }
+
+    /// Makes a form that is up to date 0.
+    #[tactic(auto, unfolding(crate::specs::Equations::vanish))]
+    fn vanish(&mut self, ready: Ready) -> Result<(), Stop>
+        requires up_to_date { IsUpToDate self.old.unknowns.states ready.residual }
+        requires made_for { ready.made_for ≡ self.old.unknowns }
+        requires within { reach_of_form ready.residual ≤ unknown_count self.old }
+        ensures exact { Gives result self.new (equations.vanish ready.residual self.old) }
+        ensures counts { unknown_count self.old ≤ unknown_count self.new }
+    {
+        let answer = self.system.equate(ready);
+        self.answered(answer)
+    }
+
+    /// What an answer of the solver means for the run; it has changed the unknowns already.
+    fn answered(&mut self, answer: Equated) -> Result<(), Stop>
+        ensures exact { Gives result self.new (equations.taken (answer, self.old.unknowns.states) self.old) }
+        ensures counts { unknown_count self.old ≤ unknown_count self.new }
+    {
+        match answer {
+            Equated::Accepted => Ok(()),
+            Equated::Redundant(residual) => self.redundant(residual),
+            Equated::Inconsistent(off) => Err(Stop::Refused(SourceError::Inconsistent(off))),
+            Equated::CoefficientTooLarge => Err(Stop::Refused(SourceError::CoefficientTooLarge)),
+            Equated::Overflow => Err(Stop::Refused(SourceError::Overflow)),
+            Equated::Limit => Err(Stop::Refused(SourceError::Limit(Cap::Terms, TERM_LIMIT))),
+        }
+    }
+
+    fn redundant(&mut self, residual: i32) -> Result<(), Stop>
+        ensures exact { Gives result self.new (equations.redundant residual self.old) }
+        ensures counts { unknown_count self.old ≤ unknown_count self.new }
+    {
+        let mut text = Bytes::copy_of(self.alloc, b"## redundant ")?;
+        push_scaled(&mut text, residual)?;
+        self.do_line(text.as_slice())
+    }
+}

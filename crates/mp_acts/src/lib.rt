@@ -1,0 +1,25 @@
+//! What statements do: the state of a run apart from its text, and the acts that read and change it.
+//!
+//! The state has the symbols with their meanings, the variables, the unknowns with the equations between them, and
+//! the lines that were shown. Each act is one public call, whose contract is the rule of the same name in specs/.
+#![tactic(auto)]
+
+mod arithmetic;
+mod equations;
+mod events;
+mod groups;
+mod lines;
+mod operands;
+mod start;
+mod state;
+mod table;
+mod texts;
+mod tokens;
+mod variable;
+mod variables;
+
+pub use state::State;
+pub use variable::{Target, Variable};
+
+#[cfg(test)]
+mod tests;

@@ -1,0 +1,82 @@
+//! Operands: their types, brought up to date, known.
+
+ghost use Rattle.std.specs.Prelude.{◌≡◌, ◌≤◌, IfOk};
+ghost use Rattle.mp_values.specs.Outcome.{Gives, IsStop};
+ghost use Rattle.mp_values.specs.Refusals as refusals;
+ghost use Rattle.mp_acts.specs.State.{unknown_count};
+ghost use Rattle.mp_acts.specs.Reach.{reach, reach_of_form};
+ghost use Rattle.mp_acts.specs.Operands as operands;
+ghost use Rattle.mp_acts.specs.Arithmetic as arithmetic;
+
+use crate::State;
+use mp_forms::Form;
+use mp_scaled::SharedSlice;
+use mp_values::{Stop, Value};
+
+impl State {
+    /// A form in which each unknown that equations have solved for is replaced by what it equals.
+    pub(crate) fn up_to_date(&self, form: &Form) -> Result<Form, Stop>
+        requires { reach_of_form form.now ≤ unknown_count self.now }
+        ensures exact { Gives result self.now (operands.up_to_date form.now self.now) }
+        ensures within { IfOk result (λ p. reach_of_form p ≤ unknown_count self.now) }
+    {
+        Ok(self.system.reduce(self.alloc, form)??)
+    }
+
+    /// The form of a number, brought up to date.
+    #[tactic(auto, unfolding(crate::specs::Operands::operand))]
+    pub(crate) fn operand(&self, op: &[u8], value: &Value) -> Result<Form, Stop>
+        requires { reach value.now ≤ unknown_count self.now }
+        ensures exact { Gives result self.now (operands.operand op.now value.now self.now) }
+        ensures within { IfOk result (λ p. reach_of_form p ≤ unknown_count self.now) }
+    {
+        match value {
+            Value::Numeric(form) => self.up_to_date(form),
+            _ => Err(Stop::wrong_type(self.alloc, op)),
+        }
+    }
+
+    /// The forms of two numbers, brought up to date, the left one first.
+    pub(crate) fn operands(
+        &self,
+        op: &[u8],
+        left: &Value,
+        right: &Value,
+    ) -> Result<(Form, Form), Stop>
+        requires left { reach left.now ≤ unknown_count self.now }
+        requires right { reach right.now ≤ unknown_count self.now }
+        ensures exact { Gives result self.now (arithmetic.operands op.now left.now right.now self.now) }
+        ensures within_left { IfOk result (λ both. reach_of_form both.0 ≤ unknown_count self.now) }
+        ensures within_right { IfOk result (λ both. reach_of_form both.1 ≤ unknown_count self.now) }
+    {
+        match (left, right) {
+            (Value::Numeric(left), Value::Numeric(right)) => {
+                let p = self.up_to_date(left)?;
+                let q = self.up_to_date(right)?;
+                Ok((p, q))
+            }
+            _ => Err(Stop::wrong_type(self.alloc, op)),
+        }
+    }
+
+    /// A number without unknowns, in units of 2^-16.
+    pub(crate) fn known(&self, op: &[u8], form: &Form) -> Result<i32, Stop>
+        ensures { Gives result self.now (operands.known op.now form.now self.now) }
+    {
+        if form.terms().is_empty() {
+            Ok(form.constant())
+        } else {
+            Err(Stop::not_known(self.alloc, op))
+        }
+    }
+
+    /// The bytes of a string, shared.
+    pub(crate) fn text(&self, op: &[u8], value: &Value) -> Result<SharedSlice<u8>, Stop>
+        ensures { Gives result self.now (operands.text op.now value.now self.now) }
+    {
+        match value {
+            Value::Text(bytes) => Ok(bytes.share()?),
+            _ => Err(Stop::wrong_type(self.alloc, op)),
+        }
+    }
+}
