@@ -1,5 +1,5 @@
 -- On writing: what is written behind other lines is behind them in the sink.
-use Rattle.std.proofs.Common.{◌≡◌, ℕ, List, [], ◌++◌, Option, Some, None, refl, sym, ◌∙◌, ap, subst, append_assoc, ◌⊎◌, inl, inr, take}
+use Rattle.std.proofs.Common.{◌≡◌, ℕ, List, [], ◌++◌, Option, Some, None, refl, ◌∙◌, ap, subst, append_assoc, inl, inr, take}
 use Rattle.std.specs.Option.{option_map}
 use Rattle.mp_files.specs.Counts.{Rose}
 use Rattle.mp_files.specs.Outside.{Gained}

@@ -1,9 +1,9 @@
 -- On outcomes: what the parts of the top call did makes the outcome of the whole.
-use Rattle.std.proofs.Common.{◌≡◌, ◌≤◌, ◌<◌, arith, ℕ, List, [], refl, sym, ◌∙◌, ap, subst, min, length}
+use Rattle.std.proofs.Common.{◌≡◌, ◌≤◌, ◌<◌, arith, ℕ, List, sym, ◌∙◌, ap, subst, min, length}
 use Rattle.mp_files.specs.declared.outside.Kept.{Kept}
 use Rattle.mpost.specs.declared.deliver.Delivered.{Delivered}
 use Rattle.mpost.specs.declared.deliver.Delivered.TheVariants as delivered
-use Rattle.mpost.specs.declared.outcome.Run.{Run}
+use Rattle.mp_eval.specs.declared.outcome.Run.{Run}
 use Rattle.mp_files.specs.declared.outside.Written.{Written}
 use Rattle.mp_files.specs.declared.outside.Written.TheVariants as written
 use Rattle.mp_files.specs.Seen.{SinkSeen}
@@ -11,9 +11,9 @@ use Rattle.mpost.specs.declared.top.End.{End}
 use Rattle.mpost.specs.declared.top.End.TheVariants.{Usage, ReadFault, NoMemory}
 use Rattle.mpost.specs.declared.top.Report.{Report}
 use Rattle.mpost.specs.Delivery.{DeliverGives}
-use Rattle.mpost.specs.Gives.{Follows, ReadCause}
-use Rattle.mpost.specs.Headline.{Outside, ends, reported, own_end, line_of, end_after, end_said, IsReadFault, Says, KeepsNothing, OneLine, Ran, RunOutcome, UsageOutcome, ran, starved}
-use Rattle.mpost.specs.Run.{Course, RunEnding, Ended, Unread, run_of}
+use Rattle.mp_eval.specs.Gives.{Follows, ReadCause}
+use Rattle.mpost.specs.Headline.{Outside, ends, reported, own_end, line_of, end_after, end_said, IsReadFault, Says, KeepsNothing, Ran, RunOutcome, UsageOutcome, ran, starved}
+use Rattle.mp_eval.specs.Run.{Course, RunEnding, Ended, Unread, run_of}
 
 keeps_nothing : (named : End) (report : Report) (before now : SinkSeen) → Says named report before now → KeepsNothing report
 keeps_nothing named report before now says = record {

@@ -5,7 +5,7 @@ use Rattle.mp_files.specs.Outside.{Gained}
 use Rattle.mp_files.specs.Seen.{ShelfSeen, SinkSeen}
 use Rattle.mpost.specs.declared.deliver.Delivered.{Delivered}
 use Rattle.mpost.specs.declared.deliver.Delivered.TheVariants.{All, LinesFailed, PutFailed, LineFailed}
-use Rattle.mpost.specs.declared.outcome.Figure.{Figure}
+use Rattle.mp_eval.specs.declared.outcome.Figure.{Figure}
 
 abbrev pub fault_line : List ℕ
 fault_line = codes "mpost: write fault\n"

@@ -1,5 +1,5 @@
 -- The headline: what comes of every command line, by the meaning of the sources that were read.
-use Rattle.std.specs.Prelude.{ℕ, zero, suc, ◌≡◌, ◌≢◌, ◌≤◌, ◌<◌, ◌⊎◌, List, [], ◌∷◌, ◌++◌, Option, Some, None, slice_get, codes, decimal, map, min, length}
+use Rattle.std.specs.Prelude.{ℕ, zero, suc, ◌≡◌, ◌≤◌, ◌<◌, ◌⊎◌, List, [], ◌++◌, Option, Some, None, slice_get, codes, decimal, map, min, length}
 use Rattle.mp_files.specs.declared.outside.Kept.{Kept}
 use Rattle.mp_files.specs.declared.outside.Written.{Written}
 use Rattle.mp_files.specs.declared.outside.Written.TheVariants as written
@@ -9,12 +9,12 @@ use Rattle.mp_files.specs.Seen.{FilesSeen, ShelfSeen, SinkSeen}
 use Rattle.mp_report.specs.Line.{error_line}
 use Rattle.mpost.specs.CommandWords.{Words, Refused, Accepted}
 use Rattle.mpost.specs.Delivery.{Ends, DeliverGives}
-use Rattle.mpost.specs.Gives.{run_end_of, ReadCause, NamesAsked}
-use Rattle.mpost.specs.Run.{Course, RunEnding, run_of}
+use Rattle.mp_eval.specs.Gives.{run_end_of, ReadCause, NamesAsked}
+use Rattle.mp_eval.specs.Run.{Course, RunEnding, run_of}
 use Rattle.mpost.specs.declared.deliver.Delivered.{Delivered}
 use Rattle.mpost.specs.declared.deliver.Delivered.TheVariants as delivered
-use Rattle.mpost.specs.declared.outcome.RunEnd.{RunEnd}
-use Rattle.mpost.specs.declared.outcome.RunEnd.TheVariants as runs
+use Rattle.mp_eval.specs.declared.outcome.RunEnd.{RunEnd}
+use Rattle.mp_eval.specs.declared.outcome.RunEnd.TheVariants as runs
 use Rattle.mpost.specs.declared.top.End.{End}
 use Rattle.mpost.specs.declared.top.End.TheVariants.{Done, Source, OutOfSteps, Usage, ReadFault, WriteFault, NoMemory}
 use Rattle.mpost.specs.declared.top.Report.{Report}

@@ -1,14 +1,4 @@
-pub mod Language
-pub mod Text
-pub mod State
-pub mod Progress
-pub mod Outcome
-pub mod Steps
-pub mod Values
-pub mod Rules
 pub mod CommandWords
 pub mod ReadWords
-pub mod Run
-pub mod Gives
 pub mod Delivery
 pub mod Headline

@@ -5,7 +5,7 @@ ghost use Rattle.std.specs.Bool.{MatchBool};
 ghost use Rattle.mp_files.specs.Outside.{WriteGives};
 ghost use Rattle.mpost.specs.Delivery.{Ends, DeliverGives, Tried, PutsGive, PutsBreak};
 
-use crate::outcome::Figure;
+use mp_eval::Figure;
 use mp_files::{Shelf, Sink, Stored, Written};
 
 /// How far the writing came.

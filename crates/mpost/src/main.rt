@@ -1,22 +1,14 @@
 //! The program: `mpost --bare FILE` runs a MetaPost source and writes what it shows.
 //!
 //! [`top::mpost_main`] carries the headline: what is written is the meaning of the sources that were read.
-//! [`words`] reads the command line, [`run`] asks for the file, [`reader`] and [`rules`] read its text, and
-//! [`deliver`] writes what came of it. The definitions stand in specs/, the rules of a text in
-//! specs/Rules.antt and the headline in specs/Headline.antt.
+//! [`words`] reads the command line, the evaluator below runs the file, and [`deliver`] writes what came of it. The
+//! headline stands in specs/Headline.antt; the rules of a text are those of the evaluator.
 #![tactic(auto)]
 
 mod deliver;
-mod language;
-mod outcome;
-mod reader;
-mod rules;
-mod run;
-mod stop;
 #[cfg(test)]
 mod tests;
 mod top;
-mod values;
 mod words;
 
 use mp_files::{NullShelf, RealFiles, WriterSink};

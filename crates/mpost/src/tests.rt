@@ -1,8 +1,8 @@
 //! Rows of sources and command lines with what they give, by the objects in memory.
 
 use crate::deliver::{Delivered, deliver};
-use crate::outcome::Figure;
 use crate::top::{End, Report, mpost_main};
+use mp_eval::Figure;
 use mp_files::{Contents, FailAt, Kept, MemoryFiles, MemoryShelf, MemorySink, NullShelf, Sources};
 use mp_scaled::{Bytes, Listing, NoMemory};
 use std::alloc::{AllocError, Global};
@@ -60,80 +60,169 @@ fn run_with(
     })
 }
 
-/// A source text, what is written, the status and the steps.
-const TEXTS: [(&str, &str, u8, u64); 30] = [
-    ("show 1/3+2;end", ">> 2.33333\n", 0, 8),
-    ("", "", 0, 1),
-    ("\n", "", 0, 2),
-    ("show -1+2, 3/4;\n", ">> 1\n>> 0.75\n", 0, 12),
-    (
-        "show 1 2;\n",
-        ">> 1\na.mp:1: error 7 Unexpected \";\" \"number\"\n",
-        1,
-        3,
-    ),
+/// A source text, what is written and the status.
+const TEXTS: [(&str, &str, u8); 50] = [
+    ("show 1/3+2;end", ">> 2.33333\n", 0),
+    ("show -1+2, 3/4;\n", ">> 1\n>> 0.75\n", 0),
     (
         "show .1+.2, .33333333333333333999; end\n",
         ">> 0.3\n>> 0.33333\n",
         0,
-        8,
     ),
-    ("show 32767.99998+1;\n", "a.mp:1: error 10 Overflow\n", 1, 5),
-    ("show 32768;\n", "a.mp:1: error 3 EnormousNumber\n", 1, 2),
-    ("show 1/0\n;\n", "a.mp:2: error 11 DivisionByZero\n", 1, 6),
-    ("show 5", ">> 5\n", 0, 4),
+    (
+        "show 1 2;\n",
+        ">> 1\na.mp:1: error 7 Unexpected \";\" \"number\"\n",
+        1,
+    ),
+    ("show 32767.99998+1;\n", "a.mp:1: error 10 Overflow\n", 1),
+    ("show 32768;\n", "a.mp:1: error 3 EnormousNumber\n", 1),
+    ("show 1/0\n;\n", "a.mp:2: error 11 DivisionByZero\n", 1),
     (
         "show",
         "a.mp:1: error 7 Unexpected \"primary\" \"end of text\"\n",
         1,
-        3,
     ),
-    ("show +-1;\n", "a.mp:1: error 29 NotBuilt +-\n", 1, 2),
-    ("show + -1;\n", "a.mp:1: error 29 NotBuilt -\n", 1, 3),
-    ("show 1- +1;\n", "a.mp:1: error 29 NotBuilt +\n", 1, 4),
-    ("show 1/2/3;\n", "a.mp:1: error 29 NotBuilt /\n", 1, 6),
-    ("show 1/x;\n", "a.mp:1: error 29 NotBuilt x\n", 1, 4),
-    ("show 1/;\n", "a.mp:1: error 29 NotBuilt /\n", 1, 4),
-    ("/1;\n", "a.mp:1: error 29 NotBuilt /\n", 1, 2),
-    ("1;\n", "a.mp:1: error 29 NotBuilt expression\n", 1, 1),
+    (
+        "show + -1, 1- +1, --1;\n",
+        ">> -1\n>> 0\na.mp:1: error 29 NotBuilt suffix\n",
+        1,
+    ),
+    (
+        "show 1/2/3, 6/(2), -3/(2), 2(3)*4, 2+3*4;\n",
+        ">> 0.16667\n>> 3\n>> -1.5\n>> 24\n>> 14\n",
+        0,
+    ),
+    ("show 1/x;\n", "a.mp:1: error 9 NotKnown /\n", 1),
+    (
+        "show 1/;\n",
+        "a.mp:1: error 7 Unexpected \"primary\" \";\"\n",
+        1,
+    ),
+    ("show x*y;\n", "a.mp:1: error 9 NotKnown *\n", 1),
+    (
+        "/1;\n",
+        "a.mp:1: error 7 Unexpected \"statement\" \"/\"\n",
+        1,
+    ),
+    ("1;\n", "a.mp:1: error 7 Unexpected \"=\" \";\"\n", 1),
     (
         ",;\n",
         "a.mp:1: error 7 Unexpected \"statement\" \",\"\n",
         1,
+    ),
+    ("x+y=3; x-y=1; show x,y; end", ">> 2\n>> 1\n", 0),
+    (
+        "x=1; x=1.00098; show x; x=1.00099; end",
+        "## redundant -0.00098\n>> 1\na.mp:1: error 13 Inconsistent -0.00099\n",
         1,
     ),
-    (";;\n;show 7 end", ">> 7\n", 0, 7),
-    ("show \"a\";", "a.mp:1: error 29 NotBuilt string\n", 1, 2),
-    ("show 1\r\n,2\r;end", ">> 1\n>> 2\n", 0, 8),
-    ("show 7; % no more\n", ">> 7\n", 0, 5),
-    ("show\t7\u{c};", ">> 7\n", 0, 5),
-    ("\nshow \"a;\n", "a.mp:2: error 2 UnfinishedString\n", 1, 3),
+    ("x=x; show x+2y; end", "## redundant 0\n>> 2y+x\n", 0),
+    ("show 30000y+30000y; end", ">> 60000y\n", 0),
+    ("2x+y=3; show x; end", ">> -0.5y+1.5\n", 0),
+    ("show x y;\n", "a.mp:1: error 29 NotBuilt suffix\n", 1),
+    (
+        "a=(x):=3;\n",
+        "a.mp:1: error 7 Unexpected \";\" \":=\"\n",
+        1,
+    ),
+    ("(x):=3;\n", "a.mp:1: error 7 Unexpected \"=\" \":=\"\n", 1),
+    (
+        "x:=y:=3; x:=x+1; z=w=x; show x,y,z,w;\n",
+        ">> 4\n>> 3\n>> 4\n>> 4\n",
+        0,
+    ),
+    ("linecap:=x;\n", "a.mp:1: error 9 NotKnown :=\n", 1),
+    ("\"a\"=\"b\";\n", "a.mp:1: error 8 WrongType =\n", 1),
+    (
+        "let a=show; a (2)*3; begingroup interim linecap:=2; a linecap; endgroup; a linecap; end",
+        ">> 6\n>> 2\n>> 1\n",
+        0,
+    ),
+    ("show begingroup save y; y+1 endgroup; end", ">> ?1+1\n", 0),
+    (
+        "x=1; begingroup save x; x=2; show x; endgroup; show x; save x; show x;\n",
+        ">> 2\n>> 1\n>> x\n",
+        0,
+    ),
+    (
+        "show begingroup x=5; endgroup, begingroup x endgroup;\n",
+        ">> vacuous\n>> 5\n",
+        0,
+    ),
+    (
+        "begingroup 5 endgroup;\n",
+        "a.mp:1: error 7 Unexpected \"=\" \";\"\n",
+        1,
+    ),
+    (
+        "begingroup 5; endgroup;\n",
+        "a.mp:1: error 7 Unexpected \"=\" \";\"\n",
+        1,
+    ),
+    (
+        "begingroup end",
+        "a.mp:1: error 7 Unexpected \"endgroup\" \"end\"\n",
+        1,
+    ),
+    ("endgroup", "a.mp:1: error 18 LoneEndgroup\n", 1),
+    (
+        "delimiters [[ ]]; show [[2]]; show (2]];\n",
+        ">> 2\na.mp:1: error 7 Unexpected \")\" \"]]\"\n",
+        1,
+    ),
+    (
+        "newinternal a,b; a:=3; show a*2,b; show x a;\n",
+        ">> 6\n>> 0\na.mp:1: error 29 NotBuilt suffix\n",
+        1,
+    ),
+    (
+        "let a=outer; show a;\n",
+        "a.mp:1: error 29 NotBuilt outer\n",
+        1,
+    ),
+    (
+        "let x",
+        "a.mp:1: error 7 Unexpected \"symbol\" \"end of text\"\n",
+        1,
+    ),
+    (
+        "let x 3",
+        "a.mp:1: error 7 Unexpected \"=\" \"number\"\n",
+        1,
+    ),
+    (
+        "interim 3",
+        "a.mp:1: error 7 Unexpected \"symbol\" \"number\"\n",
+        1,
+    ),
+    (
+        "interim linecap 3",
+        "a.mp:1: error 7 Unexpected \":=\" \"number\"\n",
+        1,
+    ),
+    (
+        "message \"hi\"; errhelp \"so\"; \"alone\"; batchmode; show \"a\"; errmessage \"no\";\n",
+        "hi\n>> \"a\"\na.mp:1: error 27 UserError \"no\"\n",
+        1,
+    ),
+    ("message 1;\n", "a.mp:1: error 8 WrongType message\n", 1),
+    ("show 1\r\n,2\r;end", ">> 1\n>> 2\n", 0),
+    ("show\t7\u{c}; % no more\n", ">> 7\n", 0),
+    ("\nshow \"a;\n", "a.mp:2: error 2 UnfinishedString\n", 1),
     (
         "show 7; \u{7f}",
         ">> 7\na.mp:1: error 1 BadCharacter 127\n",
         1,
-        4,
     ),
-    (
-        "show 7 \"\u{1}\u{2}\";",
-        "a.mp:1: error 1 BadCharacter 1\n",
-        1,
-        3,
-    ),
-    ("show 7;end \u{1} 32768 \"", ">> 7\n", 0, 4),
-    ("\n\nshow draw;", "a.mp:3: error 29 NotBuilt draw\n", 1, 4),
+    ("show 7;end \u{1} 32768 \"", ">> 7\n", 0),
+    ("\n\nshow path;", "a.mp:3: error 29 NotBuilt path\n", 1),
 ];
 
-fn expect_texts(
-    rt: &impl Abort,
-    alloc: Global,
-    rows: &[(&str, &str, u8, u64)],
-) -> Result<(), Fail> {
-    for (text, wanted, status, steps) in rows {
+fn expect_texts(rt: &impl Abort, alloc: Global, rows: &[(&str, &str, u8)]) -> Result<(), Fail> {
+    for (text, wanted, status) in rows {
         let left = run_with(alloc, "--bare a.mp", text.as_bytes(), &[], &[])?;
         assert_eq!(rt; left.sink.as_slice(), wanted.as_bytes(), "{text}");
         assert_eq!(rt; left.report.status, *status, "{text}");
-        assert_eq!(rt; left.report.steps, *steps, "{text}");
     }
     Ok(())
 }
@@ -141,6 +230,56 @@ fn expect_texts(
 #[test]
 fn texts_give_their_lines(rt: HostRuntime) -> Result<(), Fail> {
     expect_texts(&rt, rt.alloc(), &TEXTS)
+}
+
+/// A source text, and how many items are taken of it.
+const STEPS: [(&str, u64); 9] = [
+    ("show 1/3+2;end", 8),
+    ("", 1),
+    ("\n", 2),
+    ("show 5", 4),
+    (";;\n;show 7 end", 7),
+    ("show 1 2;\n", 3),
+    ("x+y=3; x-y=1; show x,y; end", 18),
+    ("let a=show; a 3/(1);end", 13),
+    ("show 1/(2);end", 8),
+];
+
+#[test]
+fn items_are_counted(rt: HostRuntime) -> Result<(), Fail> {
+    for (text, steps) in STEPS {
+        let left = run_with(rt.alloc(), "--bare a.mp", text.as_bytes(), &[], &[])?;
+        assert_eq!(rt; left.report.steps, steps, "{text}");
+    }
+    Ok(())
+}
+
+/// Parentheses, so many inside one another.
+fn nested(alloc: Global, depth: u32) -> Result<Vec<u8>, AllocError> {
+    let mut text = Vec::from_slice(alloc, b"show ")?;
+    for _ in 0..depth {
+        text.push(b'(')?;
+    }
+    text.push(b'1')?;
+    for _ in 0..depth {
+        text.push(b')')?;
+    }
+    text.extend_from_slice(b";\n")?;
+    Ok(text)
+}
+
+#[test]
+fn primaries_nest_a_hundred_deep(rt: HostRuntime) -> Result<(), Fail> {
+    let rows: [(u32, &str); 2] = [
+        (99, ">> 1\n"),
+        (100, "a.mp:1: error 28 Limit Nesting 100\n"),
+    ];
+    for (depth, wanted) in rows {
+        let text = nested(rt.alloc(), depth)?;
+        let left = run_with(rt.alloc(), "--bare a.mp", text.as_slice(), &[], &[])?;
+        assert_eq!(rt; left.sink.as_slice(), wanted.as_bytes());
+    }
+    Ok(())
 }
 
 /// A command line, what is written and the status.
@@ -299,7 +438,9 @@ fn expect_long(
 fn long_texts_are_read(rt: HostRuntime) -> Result<(), Fail> {
     expect_long(&rt, rt.alloc(), ";", "show 1;", ">> 1\n")?;
     expect_long(&rt, rt.alloc(), "show 0", "+.5", ">> 10921.5\n")?;
-    expect_long(&rt, rt.alloc(), "show 1", ",1", ">> 1\n")
+    expect_long(&rt, rt.alloc(), "show 1", ",1", ">> 1\n")?;
+    expect_long(&rt, rt.alloc(), "x", "=x", "## redundant 0\n")?;
+    expect_long(&rt, rt.alloc(), "save y", ",y", "")
 }
 
 #[test]

@@ -5,15 +5,14 @@ ghost use Rattle.std.specs.Bool.{MatchBool};
 ghost use Rattle.std.specs.String.{string_bytes};
 ghost use Rattle.mp_files.specs.Counts.{Rose};
 ghost use Rattle.mpost.specs.CommandWords.{words_of, name_of_file};
-ghost use Rattle.mpost.specs.Gives.{AreGiven};
+ghost use Rattle.mp_eval.specs.Gives.{AreGiven};
 ghost use Rattle.mpost.specs.Headline as headline;
 ghost use Rattle.mpost.specs.Headline.{Outside, Outcome, RunOutcome, NoneRose, IsOwnEnd, WritesCounted, IsReadFault, Says, line_of, name_of_source};
 
 use crate::deliver::{Delivered, deliver, write};
-use crate::outcome::{Run, RunEnd};
-use crate::run::run;
 use crate::words::{Command, name_of_file, read_words};
 use itoa::Buffer;
+use mp_eval::{Run, RunEnd, run};
 use mp_files::{Files, Kept, Shelf, Sink, Sources, Written};
 use mp_report::{Place, SourceError, write_error};
 use mp_scaled::{Bytes, Listing, NoMemory};
@@ -299,6 +298,8 @@ fn run_and_write<F: Files, S: Shelf, O: Sink>(
         figures,
         sources,
         steps,
+        unknowns: _,
+        equations: _,
         end,
     } = run(alloc, name.as_slice(), BUDGET, files);
     if is_starved(&end) {
