@@ -1,4 +1,8 @@
 //! Sums, products and quotients of values.
+//!
+//! The types of both operands are tested first (`WrongType`), then each is brought up to date, the left one first, and
+//! then what must be known is tested (`NotKnown`). `Overflow`, `CoefficientTooLarge` and `DivisionByZero` are those of
+//! the forms. The operators are named as in the language.
 
 ghost use Rattle.std.specs.Prelude.{◌≡◌, ◌≤◌, IfOk};
 ghost use Rattle.mp_values.specs.Outcome.{Gives, lift};
@@ -16,7 +20,7 @@ use std::alloc::Global;
 const ONE: i64 = 1 << 28;
 
 impl State {
-    /// The sum of two numbers.
+    /// The sum of two numbers: `WrongType`, `Overflow`, `CoefficientTooLarge`.
     #[tactic(auto, unfolding(crate::specs::Arithmetic::sum))]
     pub fn sum(&self, left: &Value, right: &Value) -> Result<Value, Stop>
         requires left { reach left.now ≤ unknown_count self.now }
@@ -29,7 +33,7 @@ impl State {
         Ok(Value::Numeric(total))
     }
 
-    /// The difference of two numbers.
+    /// The difference of two numbers: `WrongType`, `Overflow`, `CoefficientTooLarge`.
     #[tactic(auto, unfolding(crate::specs::Arithmetic::difference))]
     pub fn difference(&self, left: &Value, right: &Value) -> Result<Value, Stop>
         requires left { reach left.now ≤ unknown_count self.now }
@@ -76,7 +80,8 @@ impl State {
         Ok(Value::Numeric(negative))
     }
 
-    /// The product of two numbers, one of which must be known.
+    /// The product of two numbers, one of which must be known: `WrongType`, `NotKnown`, `Overflow`,
+    /// `CoefficientTooLarge`.
     #[tactic(auto, unfolding(crate::specs::Arithmetic::product))]
     pub fn product(&self, left: &Value, right: &Value) -> Result<Value, Stop>
         requires left { reach left.now ≤ unknown_count self.now }
@@ -104,7 +109,8 @@ impl State {
         }
     }
 
-    /// The quotient of two numbers, the second of which must be known.
+    /// The quotient of two numbers, the second of which must be known: `WrongType`, `NotKnown`, `DivisionByZero`,
+    /// `Overflow`, `CoefficientTooLarge`.
     #[tactic(auto, unfolding(crate::specs::Arithmetic::quotient))]
     pub fn quotient(&self, left: &Value, right: &Value) -> Result<Value, Stop>
         requires left { reach left.now ≤ unknown_count self.now }
@@ -127,7 +133,7 @@ impl State {
         Value::Numeric(Form::constant_of(self.alloc, value.units()))
     }
 
-    /// Two number tokens with a slash between them.
+    /// Two number tokens with a slash between them: `DivisionByZero`, `Overflow`.
     #[tactic(auto, unfolding(crate::specs::Arithmetic::fraction))]
     pub fn fraction(&self, over: Scaled, under: Scaled) -> Result<Value, Stop>
         ensures exact { result ≡ arithmetic.fraction over under }

@@ -21,7 +21,11 @@ use mp_values::{Stop, Value};
 const TERM_LIMIT: u32 = 4_000_000;
 
 impl State {
-    /// Makes two numbers equal.
+    /// Makes two numbers equal, by the difference of the left one and the right one.
+    ///
+    /// Where that is known and at most 64 units of 2^-16, it is noted on a line that begins with `## redundant `; where
+    /// it is more, the equation is `Inconsistent`. `WrongType`, `Overflow`, `CoefficientTooLarge` and `Limit` (more than
+    /// 4,000,000 terms) refuse it too. Only an equation that is accepted changes what is known of unknowns.
     #[tactic(auto, unfolding(crate::specs::Equations::equation))]
     pub fn do_equation(&mut self, left: &Value, right: &Value) -> Result<(), Stop>
         requires left { reach left.now ≤ unknown_count self.old }

@@ -55,7 +55,8 @@ impl State {
         }
     }
 
-    /// Makes a symbol a new tag, up to the end of the group.
+    /// Makes a symbol a new tag, up to the end of the group, and for good where no group is open. A symbol past the
+    /// table is left.
     #[tactic(auto, unfolding(crate::specs::Groups::save))]
     pub fn do_save(&mut self, symbol: u32) -> Result<(), Stop>
         ensures exact { Gives result self.new (change (groups.save symbol) self.old) }
@@ -102,7 +103,8 @@ impl State {
         Ok(())
     }
 
-    /// Gives an internal a known value, up to the end of the group.
+    /// Gives an internal a known value, up to the end of the group: `WrongType`, `NotKnown`. A number past the
+    /// internals is left.
     #[tactic(auto, unfolding(crate::specs::Groups::interim))]
     pub fn do_interim(&mut self, k: u32, value: &Value) -> Result<(), Stop>
         requires { reach value.now ≤ unknown_count self.old }

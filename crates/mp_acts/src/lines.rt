@@ -15,7 +15,7 @@ use mp_values::{Stop, Value};
 const LINES_LIMIT: usize = 16_777_216;
 
 impl State {
-    /// Adds a line, given without its end.
+    /// Adds a line, given without its end: `Limit` where all lines together would have more than 16,777,216 bytes.
     #[tactic(auto, unfolding(crate::specs::Lines::line))]
     pub fn do_line(&mut self, text: &[u8]) -> Result<(), Stop>
         ensures exact { Gives result self.new (lines.line text.now self.old) }
@@ -29,7 +29,7 @@ impl State {
         Ok(())
     }
 
-    /// Shows a value.
+    /// Shows a value, a number brought up to date, on a line of its own that begins with `>> `.
     #[tactic(auto, unfolding(crate::specs::Lines::show))]
     pub fn do_show(&mut self, value: &Value) -> Result<(), Stop>
         requires { reach value.now ≤ unknown_count self.old }
@@ -42,7 +42,7 @@ impl State {
         self.do_line(line.as_slice())
     }
 
-    /// Writes a string as a line.
+    /// Writes a string as a line: `WrongType` for any other value.
     #[tactic(auto, unfolding(crate::specs::Lines::message))]
     pub fn do_message(&mut self, value: &Value) -> Result<(), Stop>
         ensures exact { Gives result self.new (lines.message value.now self.old) }
@@ -52,7 +52,7 @@ impl State {
         self.do_line(text.as_slice())
     }
 
-    /// Ends the run with a string as its error.
+    /// Ends the run with a string as its error, `UserError`; any other value is refused with `WrongType`.
     #[tactic(auto, unfolding(crate::specs::Lines::errmessage))]
     pub fn do_errmessage(&self, value: &Value) -> Result<(), Stop>
         ensures exact { Gives result self.now (lines.errmessage value.now self.now) }
@@ -62,7 +62,7 @@ impl State {
         Err(Stop::Refused(SourceError::UserError(text)))
     }
 
-    /// Takes a string as help, which has no effect.
+    /// Takes a string as help, which has no effect: `WrongType` for any other value.
     #[tactic(auto, unfolding(crate::specs::Lines::errhelp))]
     pub fn do_errhelp(&self, value: &Value) -> Result<(), Stop>
         ensures exact { Gives result self.now (lines.errhelp value.now self.now) }

@@ -69,7 +69,7 @@ impl State {
     }
 
     /// The value of the variable of a root, whose tag that symbol is. One that has none becomes a new unknown of
-    /// the symbol's name.
+    /// the symbol's name: `Limit` where there are 1,000,000.
     #[tactic(auto, unfolding(crate::specs::Variables::read))]
     pub fn do_read(&mut self, symbol: u32, root: u32) -> Result<Value, Stop>
         ensures exact { Gives result self.new (variables.read symbol root self.old) }
@@ -130,7 +130,9 @@ impl State {
         self.set_variable(root, new);
     }
 
-    /// Assigns a number to a variable, or to an internal, for which it must be known.
+    /// Assigns a number to a variable, or to an internal, for which it must be known: `WrongType`, `NotKnown`.
+    ///
+    /// The unknown that the variable was has no name any more. A root or a number past the last is assigned nothing.
     #[tactic(auto, unfolding(crate::specs::Variables::assign))]
     pub fn do_assign(&mut self, to: Target, value: &Value) -> Result<(), Stop>
         requires { reach value.now ≤ unknown_count self.old }
