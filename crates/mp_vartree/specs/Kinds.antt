@@ -1,0 +1,29 @@
+-- The kinds of values, and the unknowns in them.
+use Rattle.std.specs.Prelude.{ℕ, Bool, true, false, List, [], map, Option, Some, None}
+use Rattle.mp_values.specs.declared.value.Kind.{Kind}
+use Rattle.mp_values.specs.declared.value.Kind.TheVariants as kind
+use Rattle.mp_values.specs.declared.value.Value.{Value}
+use Rattle.mp_values.specs.declared.value.Value.TheVariants as value
+
+-- the kind of a value; a vacuous one has none
+abbrev pub kind_of : Value → Option Kind
+kind_of (value.Boolean truth) = Some kind.Boolean
+kind_of (value.Numeric form) = Some kind.Numeric
+kind_of (value.Text bytes) = Some kind.Text
+kind_of (value.Unset k slot) = Some k
+kind_of value.Vacuous = None
+
+abbrev pub kind_eq : Kind → Kind → Bool
+kind_eq kind.Boolean kind.Boolean = true
+kind_eq kind.Numeric kind.Numeric = true
+kind_eq kind.Text kind.Text = true
+kind_eq a b = false
+
+abbrev pub is_kind : Kind → Option Kind → Bool
+is_kind wanted None = false
+is_kind wanted (Some k) = kind_eq k wanted
+
+-- the numbers of the unknowns in a value
+abbrev pub unknowns_in : Value → List ℕ
+unknowns_in (value.Numeric form) = map (λ term. term.serial) form.terms
+unknowns_in other = []

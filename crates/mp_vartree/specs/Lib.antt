@@ -1,0 +1,12 @@
+pub mod Names
+pub mod Kinds
+pub mod Serials
+pub mod Declarations
+pub mod Variables
+pub mod Tree
+pub mod TreeFalls
+pub mod Children
+pub mod Coding
+pub mod Tags
+pub mod Gathered
+pub mod Laws

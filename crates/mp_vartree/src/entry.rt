@@ -1,0 +1,22 @@
+//! What is kept of a pattern and of a variable.
+
+use crate::Macro;
+use mp_scaled::Shared;
+use mp_values::{Kind, Value};
+
+/// What a pattern was declared to be.
+#[derive(Debug, Drop)]
+pub enum Declared {
+    /// Variables of that type.
+    Typed(Kind),
+    /// A macro.
+    Macro(Shared<Macro>),
+}
+
+/// A variable that has a value.
+#[derive(Debug, Drop)]
+pub struct Variable {
+    pub value: Value,
+    /// The unknowns in the value were made for this variable.
+    pub made: bool,
+}

@@ -1,0 +1,29 @@
+//! Variables: their full names, their types, and their values.
+//!
+//! A variable's full name is a root, which stands for its tag, and parts, which are symbols and subscripts. A
+//! declaration speaks of all names of a pattern, which has one collective part in place of each subscript, and gives
+//! them a type or a macro (Knuth, The METAFONTbook, chapter 7, and METAFONT: The Program, part 15).
+#![tactic(auto)]
+
+mod answers;
+mod declarations;
+mod entry;
+mod kinds;
+mod laws;
+mod macros;
+mod name_tree;
+mod names;
+mod pattern_tree;
+mod serials;
+mod shapes;
+mod tag;
+#[cfg(test)]
+mod tests;
+mod vars;
+
+pub use answers::{BadDeclaration, Found, WrongType};
+pub use laws::{one_pattern_matches, variables_are_a_map};
+pub use macros::{Items, Level, Macro, ParamKind, Params};
+pub use names::{Part, Shape};
+pub use serials::Serials;
+pub use vars::Vars;

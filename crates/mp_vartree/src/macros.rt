@@ -1,0 +1,60 @@
+//! Macros.
+
+use mp_scaled::Listing;
+use mp_values::Item;
+
+/// What a parameter of a macro takes.
+#[derive(Clone, Copy, Debug, PartialEq, Eq)]
+pub enum ParamKind {
+    /// An expression between delimiters.
+    Expr,
+    /// A suffix between delimiters.
+    Suffix,
+    /// A text between delimiters.
+    Text,
+    /// A primary without delimiters.
+    Primary,
+    /// A secondary without delimiters.
+    Secondary,
+    /// A tertiary without delimiters.
+    Tertiary,
+    /// An expression without delimiters.
+    BareExpr,
+    /// An expression, `of` and a primary, without delimiters; it stands for two parameters.
+    ExprOf,
+    /// A suffix without delimiters.
+    BareSuffix,
+    /// A text without delimiters.
+    BareText,
+}
+
+/// How a macro is called.
+#[derive(Clone, Copy, Debug, PartialEq, Eq)]
+pub enum Level {
+    /// By its symbol.
+    Plain,
+    /// By the name of a variable.
+    Variable,
+    /// By the name of a variable, with the rest of the suffix as an argument.
+    Suffixed,
+    /// Between a primary and a secondary.
+    Primary,
+    /// Between a secondary and a tertiary.
+    Secondary,
+    /// Between a tertiary and an expression.
+    Tertiary,
+}
+
+/// What the parameters of a macro take, in order.
+pub type Params = Listing<ParamKind>;
+
+/// A piece of a text, item by item.
+pub type Items = Listing<Item>;
+
+/// A macro.
+#[derive(Debug, Drop)]
+pub struct Macro {
+    pub params: Params,
+    pub body: Items,
+    pub level: Level,
+}
