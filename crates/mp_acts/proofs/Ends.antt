@@ -1,6 +1,6 @@
 -- No rule of this crate ends by want of memory.
-use Rattle.std.proofs.Common.{◌≢◌, ℕ, ◌+◌, ℤ, pos, neg_ℤ, true, false, cond, length, List, [], ◌∷◌, ◌++◌, Option, Some, None, Result, Ok, Err}
-use Rattle.std.specs.Prelude.{nat_le, codes, slice_get}
+use Rattle.std.proofs.Common.{◌≢◌, ℕ, ◌+◌, ℤ, pos, neg_ℤ, Bool, true, false, cond, length, List, [], ◌∷◌, ◌++◌, Option, Some, None, Result, Ok, Err}
+use Rattle.std.specs.Prelude.{nat_le, codes}
 use Rattle.mp_pool.specs.declared.Term.{Term}
 use Rattle.mp_scaled.specs.Round.{make_scaled_of}
 use Rattle.mp_scaled.specs.declared.arith.Arith.{Arith}
@@ -19,24 +19,33 @@ use Rattle.mp_solver.specs.declared.equated.Equated.TheVariants.{Accepted, Redun
 use Rattle.mp_solver.specs.declared.fresh.Fresh.{Fresh}
 use Rattle.mp_solver.specs.declared.fresh.Fresh.TheVariants as fresh
 use Rattle.mp_values.specs.Outcome.{Outcome, Rule, then, in_state, Ends}
+use Rattle.mp_values.specs.Refusals.{wrong_type}
 use Rattle.mp_values.specs.declared.meaning.Meaning.{Meaning}
 use Rattle.mp_values.specs.declared.meaning.Meaning.TheVariants as meaning
 use Rattle.mp_values.specs.declared.stop.Stop.{Stop}
 use Rattle.mp_values.specs.declared.stop.Stop.TheVariants.{Refused, NoMemory}
+use Rattle.mp_values.specs.declared.value.Kind.{Kind}
+use Rattle.mp_values.specs.declared.value.Kind.TheVariants as kind
 use Rattle.mp_values.specs.declared.value.Value.{Value}
 use Rattle.mp_values.specs.declared.value.Value.TheVariants.{Boolean, Numeric, Text, Unset, Vacuous}
-use Rattle.mp_acts.specs.State.{State, symbol_name, symbol_meaning}
-use Rattle.mp_acts.specs.Operands.{numeric, text, or_refused, up_to_date, operand, known_by, known}
+use Rattle.mp_vartree.specs.Kinds.{kind_of, is_kind, are_of_one_kind}
+use Rattle.mp_vartree.specs.Variables as variables
+use Rattle.mp_vartree.specs.Variables.{Variables, variable_at, wanted_kind, made}
+use Rattle.mp_vartree.specs.declared.answers.BadDeclaration.{BadDeclaration}
+use Rattle.mp_vartree.specs.declared.entry.Variable.{Variable}
+use Rattle.mp_vartree.specs.declared.names.Part.{Part}
+use Rattle.mp_vartree.specs.declared.names.Shape.{Shape}
+use Rattle.mp_acts.specs.State.{State, symbol_meaning}
+use Rattle.mp_acts.specs.Operands.{numeric, settled, text_by, text, or_refused, up_to_date, operand, known_by, known}
+use Rattle.mp_acts.specs.Suffixes.{suffix_text, variable_name, short_string, suffix_string, number_in, subscript_by, subscript}
 use Rattle.mp_acts.specs.Arithmetic.{one, operands, sum, difference_by, difference, positive, negated, product_by, product, quotient, or_stop, fraction}
-use Rattle.mp_acts.specs.Texts.{value_text, form_shown}
+use Rattle.mp_acts.specs.Texts.{settled_text, value_text, form_shown}
 use Rattle.mp_acts.specs.Lines.{line, show, message, errmessage, errhelp}
-use Rattle.mp_acts.specs.Variables.{root_by, root_of, made_unknown, value_of, read, store, assign}
-use Rattle.mp_acts.specs.Equations.{taken, vanish, equation}
+use Rattle.mp_acts.specs.Variables.{root_by, root_of, made_unknown, made_value, value_of, read, declared_by, declare, of_type, current, assign_variable, assign_internal, assign}
+use Rattle.mp_acts.specs.Equations.{taken, vanish, equate_numbers, agree, equate, equate_as, equation}
 use Rattle.mp_acts.specs.Groups.{interim}
-use Rattle.mp_acts.specs.declared.variable.Variable.{Variable}
-use Rattle.mp_acts.specs.declared.variable.Variable.TheVariants as variable
-use Rattle.mp_acts.specs.declared.variable.Target.{Target}
-use Rattle.mp_acts.specs.declared.variable.Target.TheVariants as target
+use Rattle.mp_acts.specs.declared.target.Target.{Target}
+use Rattle.mp_acts.specs.declared.target.Target.TheVariants as target
 
 -- an answer that is no want of memory
 abbrev pub EndsAnswer : {A : Type 0} → Result A Stop → Type 0
@@ -71,12 +80,17 @@ numeric-ends op (Boolean b) s = refused _
 numeric-ends op (Unset kind slot) s = refused _
 numeric-ends op Vacuous s = refused _
 
+text_by-ends : (op : List ℕ) (v : Value) (s : State) → Ends (text_by op v s)
+text_by-ends op (Text bytes) s = tt
+text_by-ends op (Numeric p) s = refused _
+text_by-ends op (Boolean b) s = refused _
+text_by-ends op (Unset kind.Text slot) s = refused _
+text_by-ends op (Unset kind.Boolean slot) s = refused _
+text_by-ends op (Unset kind.Numeric slot) s = refused _
+text_by-ends op Vacuous s = refused _
+
 text-ends : (op : List ℕ) (v : Value) (s : State) → Ends (text op v s)
-text-ends op (Text bytes) s = tt
-text-ends op (Numeric p) s = refused _
-text-ends op (Boolean b) s = refused _
-text-ends op (Unset kind slot) s = refused _
-text-ends op Vacuous s = refused _
+text-ends op v s = text_by-ends op (settled s.slots v) s
 
 up_to_date-ends : (p : LinearForm) (s : State) → Ends (up_to_date p s)
 up_to_date-ends p s = form-ends (reduce_of s.unknowns.states p) s
@@ -162,13 +176,16 @@ line-ends written s =
       | false ↦ refused _
     ]
 
+settled_text-ends : (v : Value) (s : State) → Ends (settled_text v s)
+settled_text-ends (Numeric p) s = then-ends (up_to_date p s) form_shown (up_to_date-ends p s) (λ q s. tt)
+settled_text-ends (Text bytes) s = tt
+settled_text-ends (Boolean b) s = tt
+settled_text-ends (Unset kind slot) s = tt
+settled_text-ends Vacuous s = tt
+
 value_text-ends : (v : Value) (s : State) → Ends (value_text v s)
 unfolding value_text
-value_text-ends (Numeric p) s = then-ends (up_to_date p s) form_shown (up_to_date-ends p s) (λ q s. tt)
-value_text-ends (Text bytes) s = tt
-value_text-ends (Boolean b) s = tt
-value_text-ends (Unset kind slot) s = tt
-value_text-ends Vacuous s = tt
+value_text-ends v s = settled_text-ends (settled s.slots v) s
 
 pub show-ends : (v : Value) (s : State) → Ends (show v s)
 unfolding show
@@ -200,27 +217,90 @@ pub root_of-ends : (symbol : ℕ) (s : State) → Ends (root_of symbol s)
 unfolding root_of
 root_of-ends symbol s = root_by-ends symbol (symbol_meaning s symbol) s
 
-made-ends : (s : State) (root : ℕ) (answer : Fresh × Unknowns) → Ends (made_unknown s root answer)
-made-ends s root (fresh.Made serial, unknowns) = tt
-made-ends s root (fresh.Limit, unknowns) = refused _
+made_unknown-ends : (s : State) (root : ℕ) (name : List Part) (answer : Fresh × Unknowns) → Ends (made_unknown s root name answer)
+made_unknown-ends s root name (fresh.Made serial, unknowns) = tt
+made_unknown-ends s root name (fresh.Limit, unknowns) = refused _
 
-value_of-ends : (symbol root : ℕ) (v : Option Variable) (s : State) → Ends (value_of symbol root v s)
-value_of-ends symbol root (Some (variable.Unknown serial)) s = tt
-value_of-ends symbol root (Some (variable.Assigned p)) s = tt
-value_of-ends symbol root (Some variable.Unread) s = made-ends s root (fresh_of s.unknowns (symbol_name s symbol))
-value_of-ends symbol root None s = made-ends s root (fresh_of s.unknowns (symbol_name s symbol))
+made_value-ends : (symbol root : ℕ) (name : List Part) (k : Kind) (s : State) → Ends (made_value symbol root name k s)
+made_value-ends symbol root name kind.Numeric s = made_unknown-ends s root name (fresh_of s.unknowns (variable_name s symbol name))
+made_value-ends symbol root name kind.Boolean s = tt
+made_value-ends symbol root name kind.Text s = tt
 
-pub read-ends : (symbol root : ℕ) (s : State) → Ends (read symbol root s)
+value_of-ends : (symbol root : ℕ) (name : List Part) (v : Option Variable) (s : State) → Ends (value_of symbol root name v s)
+value_of-ends symbol root name (Some x) s = tt
+value_of-ends symbol root name None s = made_value-ends symbol root name (wanted_kind s.variables root name) s
+
+pub read-ends : (symbol root : ℕ) (name : List Part) (s : State) → Ends (read symbol root name s)
 unfolding read
-read-ends symbol root s = value_of-ends symbol root (slice_get s.variables root) s
+read-ends symbol root name s = value_of-ends symbol root name (variable_at s.variables root name) s
 
-store-ends : (to : Target) (p : LinearForm) (s : State) → Ends (store to p s)
-store-ends (target.Variable root) p s = tt
-store-ends (target.Internal k) p s = then-ends (known (codes ":=") p s) _ (known-ends (codes ":=") p s) (λ value s. tt)
+declared_by-ends : (serials : List ℕ) (answer : Result (Unit {0}) BadDeclaration × Variables) (s : State) → Ends (declared_by serials answer s)
+declared_by-ends serials (Ok x, variables) s = tt
+declared_by-ends serials (Err refusal, variables) s = refused _
+
+pub declare-ends : (symbol : ℕ) (name : List Shape) (k : Kind) (s : State) → Ends (declare symbol name k s)
+unfolding declare
+declare-ends symbol name k s =
+    then-ends (root_of symbol s) _ (root_of-ends symbol s) (λ root s.
+    declared_by-ends (made s.variables root name false) (variables.declare s.variables root name k) s)
+
+of_type-ends : (root : ℕ) (name : List Part) (v : Value) (s : State) → Ends (of_type root name v s)
+of_type-ends root name v s =
+    elim (is_kind (wanted_kind s.variables root name) (kind_of v)) as (λ b. Ends {A = Unit {0}} (cond b (Ok (tt, s)) (Err (wrong_type (codes ":="), s)))) [
+      | true ↦ tt
+      | false ↦ refused _
+    ]
+
+current-ends : (v : Value) (s : State) → Ends (current v s)
+current-ends (Numeric p) s = then-ends (up_to_date p s) _ (up_to_date-ends p s) (λ q s. tt)
+current-ends (Text bytes) s = tt
+current-ends (Boolean b) s = tt
+current-ends (Unset k slot) s = tt
+current-ends Vacuous s = tt
+
+assign_variable-ends : (root : ℕ) (name : List Part) (v : Value) (s : State) → Ends (assign_variable root name v s)
+assign_variable-ends root name v s =
+    then-ends (of_type root name v s) _ (of_type-ends root name v s) (λ typed s.
+    then-ends (current v s) _ (current-ends v s) (λ new s. tt))
+
+assign_internal-ends : (k : ℕ) (v : Value) (s : State) → Ends (assign_internal k v s)
+assign_internal-ends k v s =
+    then-ends (operand (codes ":=") v s) _ (operand-ends (codes ":=") v s) (λ p s.
+    then-ends (known (codes ":=") p s) _ (known-ends (codes ":=") p s) (λ value s. tt))
 
 pub assign-ends : (to : Target) (v : Value) (s : State) → Ends (assign to v s)
 unfolding assign
-assign-ends to v s = then-ends (operand (codes ":=") v s) _ (operand-ends (codes ":=") v s) (λ p s. store-ends to p s)
+assign-ends (target.Variable root name) v s = assign_variable-ends root name v s
+assign-ends (target.Internal k) v s = assign_internal-ends k v s
+
+-- suffixes
+short_string-ends : (bytes : List ℕ) (s : State) → Ends (short_string bytes s)
+short_string-ends bytes s =
+    elim (nat_le (length bytes) 65536) as (λ b. Ends (cond b (Ok (Text bytes, s)) (Err (Refused (error.Limit cap.Text 65536), s)))) [
+      | true ↦ tt
+      | false ↦ refused _
+    ]
+
+pub suffix_string-ends : (parts : List Part) (s : State) → Ends (suffix_string parts s)
+unfolding suffix_string
+suffix_string-ends parts s = short_string-ends (suffix_text s parts) s
+
+number_in-ends : (v : Value) (s : State) → Ends (number_in v s)
+number_in-ends (Numeric p) s = tt
+number_in-ends (Text bytes) s = refused _
+number_in-ends (Boolean b) s = refused _
+number_in-ends (Unset k slot) s = refused _
+number_in-ends Vacuous s = refused _
+
+subscript_by-ends : (constant : ℤ) (ts : List Term) (s : State) → Ends (subscript_by constant ts s)
+subscript_by-ends constant [] s = tt
+subscript_by-ends constant (t ∷ ts) s = refused _
+
+pub subscript-ends : (v : Value) (s : State) → Ends (subscript v s)
+unfolding subscript
+subscript-ends v s =
+    then-ends (number_in v s) _ (number_in-ends v s) (λ p s.
+    then-ends (up_to_date p s) _ (up_to_date-ends p s) (λ q s. subscript_by-ends q.constant q.terms s))
 
 -- equations
 taken-ends : (answer : Equated × States) (s : State) → Ends (taken answer s)
@@ -235,11 +315,50 @@ vanish-ends : (residual : LinearForm) (s : State) → Ends (vanish residual s)
 unfolding vanish
 vanish-ends residual s = taken-ends (eliminate s.unknowns.states residual) s
 
-pub equation-ends : (a b : Value) (s : State) → Ends (equation a b s)
-unfolding equation
-equation-ends a b s =
+equate_numbers-ends : (a b : Value) (s : State) → Ends (equate_numbers a b s)
+unfolding equate_numbers
+equate_numbers-ends a b s =
     then-ends (difference_by (codes "=") a b s) _ (difference_by-ends (codes "=") a b s) (λ rest s.
     then-ends (up_to_date rest s) _ (up_to_date-ends rest s) (λ residual s. vanish-ends residual s))
+
+agree-ends : (equal : Bool) (s : State) → Ends (agree equal s)
+agree-ends true s = line-ends _ s
+agree-ends false s = refused _
+
+equate-ends : (a b : Value) (s : State) → Ends (equate a b s)
+equate-ends (Unset k slot) (Unset l other) s = refused _
+equate-ends (Unset k slot) (Numeric p) s = tt
+equate-ends (Unset k slot) (Text bytes) s = tt
+equate-ends (Unset k slot) (Boolean b) s = tt
+equate-ends (Unset k slot) Vacuous s = tt
+equate-ends (Numeric p) (Unset k slot) s = tt
+equate-ends (Text bytes) (Unset k slot) s = tt
+equate-ends (Boolean b) (Unset k slot) s = tt
+equate-ends Vacuous (Unset k slot) s = tt
+equate-ends (Text a) (Text b) s = agree-ends _ s
+equate-ends (Boolean a) (Boolean b) s = agree-ends _ s
+equate-ends (Text a) (Numeric p) s = equate_numbers-ends _ _ s
+equate-ends (Text a) (Boolean b) s = equate_numbers-ends _ _ s
+equate-ends (Text a) Vacuous s = equate_numbers-ends _ _ s
+equate-ends (Boolean a) (Numeric p) s = equate_numbers-ends _ _ s
+equate-ends (Boolean a) (Text b) s = equate_numbers-ends _ _ s
+equate-ends (Boolean a) Vacuous s = equate_numbers-ends _ _ s
+equate-ends (Numeric p) (Numeric q) s = equate_numbers-ends _ _ s
+equate-ends (Numeric p) (Text b) s = equate_numbers-ends _ _ s
+equate-ends (Numeric p) (Boolean b) s = equate_numbers-ends _ _ s
+equate-ends (Numeric p) Vacuous s = equate_numbers-ends _ _ s
+equate-ends Vacuous (Numeric q) s = equate_numbers-ends _ _ s
+equate-ends Vacuous (Text b) s = equate_numbers-ends _ _ s
+equate-ends Vacuous (Boolean b) s = equate_numbers-ends _ _ s
+equate-ends Vacuous Vacuous s = equate_numbers-ends _ _ s
+
+equate_as-ends : (same : Bool) (a b : Value) (s : State) → Ends (equate_as same a b s)
+equate_as-ends true a b s = equate-ends a b s
+equate_as-ends false a b s = refused _
+
+pub equation-ends : (a b : Value) (s : State) → Ends (equation a b s)
+unfolding equation
+equation-ends a b s = equate_as-ends (are_of_one_kind (settled s.slots a) (settled s.slots b)) (settled s.slots a) (settled s.slots b) s
 
 -- internals
 pub interim-ends : (k : ℕ) (v : Value) (s : State) → Ends (interim k v s)

@@ -13,8 +13,9 @@ use Rattle.mp_forms.specs.declared.fault.FormFault.{FormFault}
 use Rattle.mp_solver.specs.Elimination.{without, term_of, over_negative, solved_for, replaced, replaced_term, solved_states, forms_in, has_large_coefficient, has_large_constant, term_count, eliminate_by, eliminate, pivot_of}
 use Rattle.mp_solver.specs.declared.equated.Equated.{Equated}
 use Rattle.mp_solver.specs.declared.equated.Equated.TheVariants.{Accepted, CoefficientTooLarge, Overflow, Limit}
-use Rattle.mp_acts.specs.declared.variable.Variable.{Variable}
-use Rattle.mp_acts.specs.Reach.{reach_of_form, reach_of_known, reach_of_variable, AreWithin}
+use Rattle.mp_values.specs.declared.value.Value.{Value}
+use Rattle.mp_vartree.specs.Variables.{Variables}
+use Rattle.mp_acts.specs.Reach.{reach_of_form, reach_of_known, reach_of_slot, AreWithin}
 use Rattle.mp_acts.proofs.ReachLemmas.{reach-filter, reach-changed, reach-sum}
 
 module _ (n : ℕ) where
@@ -74,13 +75,13 @@ eliminate_like states residual forms h =
     })
 
 -- the invariant of a state holds after an equation
-pub record Keeps (before after : States) (variables : List Variable) : Type 0 where
+pub record Keeps (before after : States) (variables : Variables) (slots : List (Option Value)) : Type 0 where
   pub length_is : length after ≡ length before
-  pub within : AreWithin after variables
+  pub within : AreWithin after variables slots
 
-pub equation_keeps : (states after : States) (variables : List Variable) (residual : LinearForm) (answer : Equated) → AreWithin states variables
-    → reach_of_form residual ≤ length states → (answer, after) ≡ eliminate states residual → Keeps states after variables
-equation_keeps states after variables residual answer is h e =
+pub equation_keeps : (states after : States) (variables : Variables) (slots : List (Option Value)) (residual : LinearForm) (answer : Equated)
+    → AreWithin states variables slots → reach_of_form residual ≤ length states → (answer, after) ≡ eliminate states residual → Keeps states after variables slots
+equation_keeps states after variables slots residual answer is h e =
     let same : after ≡ (eliminate states residual).1 = ap (λ pair. pair.1) e in
     let like = eliminate_like states residual is.forms h in
     let count : length after ≡ length states = ap length same ∙ like.length_is in
@@ -90,7 +91,8 @@ equation_keeps states after variables residual answer is h e =
       within = record {
         few = omega (arith, is.few);
         forms = All-weaker (λ known. reach_of_known known ≤ length states) (λ known. reach_of_known known ≤ length after) (λ known h. omega arith) after forms;
-        held = All-weaker (λ v. reach_of_variable v ≤ length states) (λ v. reach_of_variable v ≤ length after) (λ v h. omega arith) variables is.held;
+        held = λ name. omega (arith, is.held name);
+        filled = All-weaker (λ slot. reach_of_slot slot ≤ length states) (λ slot. reach_of_slot slot ≤ length after) (λ slot h. omega arith) slots is.filled;
       };
     }
 

@@ -5,3 +5,4 @@ pub mod EventLemmas
 mod Examples
 pub mod TableLemmas
 pub mod TextLemmas
+pub mod WithinLemmas

@@ -1,6 +1,8 @@
 -- Equations between two values.
 -- After Hobby, A User's Manual for MetaPost, section 3.2; the lines and the order of the refusals are this project's own.
-use Rattle.std.specs.Prelude.{ℤ, ◌++◌, Ok, Err, codes}
+use Rattle.std.specs.Prelude.{ℕ, ℤ, pos, Bool, true, false, ◌++◌, Some, Ok, Err, slice_set, codes}
+use Rattle.std.specs.Bool.{beq}
+use Rattle.std.specs.Str.{bytes_eq}
 use Rattle.mp_scaled.specs.Print.{printed}
 use Rattle.mp_forms.specs.Forms.{LinearForm}
 use Rattle.mp_solver.specs.States.{States}
@@ -9,11 +11,14 @@ use Rattle.mp_solver.specs.declared.equated.Equated.{Equated}
 use Rattle.mp_solver.specs.declared.equated.Equated.TheVariants.{Accepted, Redundant, Inconsistent, CoefficientTooLarge, Overflow, Limit}
 use Rattle.mp_report.specs.declared.error.Cap.TheVariants as cap
 use Rattle.mp_report.specs.declared.error.SourceError.TheVariants as error
-use Rattle.mp_values.specs.Outcome.{Rule, ◌>>=◌}
+use Rattle.mp_values.specs.Outcome.{Rule, ◌>>=◌, halt, change}
+use Rattle.mp_values.specs.Refusals.{wrong_type, not_known}
 use Rattle.mp_values.specs.declared.stop.Stop.TheVariants.{Refused}
 use Rattle.mp_values.specs.declared.value.Value.{Value}
+use Rattle.mp_values.specs.declared.value.Value.TheVariants.{Boolean, Text, Unset}
+use Rattle.mp_vartree.specs.Kinds.{are_of_one_kind}
 use Rattle.mp_acts.specs.State.{State}
-use Rattle.mp_acts.specs.Operands.{up_to_date}
+use Rattle.mp_acts.specs.Operands.{up_to_date, settled}
 use Rattle.mp_acts.specs.Arithmetic.{difference_by}
 use Rattle.mp_acts.specs.Lines.{line}
 
@@ -35,8 +40,34 @@ unfoldable pub vanish : LinearForm → Rule State (Unit {0})
 vanish residual s = taken (eliminate s.unknowns.states residual) s
 
 -- two numbers are made equal: their difference, brought up to date, is made to be 0
-unfoldable pub equation : Value → Value → Rule State (Unit {0})
-equation a b = do
+unfoldable pub equate_numbers : Value → Value → Rule State (Unit {0})
+equate_numbers a b = do
   rest ← difference_by (codes "=") a b
   residual ← up_to_date rest
   vanish residual
+
+-- two known values are equal or not
+abbrev pub agree : Bool → Rule State (Unit {0})
+agree true s = redundant (pos 0) s
+agree false s = Err (Refused (error.Inconsistent (pos 0)), s)
+
+-- a slot is filled, for all values that have it
+abbrev pub fill : ℕ → Value → State → State
+fill slot v s = record s { slots = slice_set s.slots slot (Some v) }
+
+-- two values of one type are made equal; of two without a value nothing is kept
+abbrev pub equate : Value → Value → Rule State (Unit {0})
+equate (Unset kind slot) (Unset other_kind other) = halt (not_known (codes "="))
+equate (Unset kind slot) v = change (fill slot v)
+equate v (Unset kind slot) = change (fill slot v)
+equate (Text a) (Text b) = agree (bytes_eq a b)
+equate (Boolean a) (Boolean b) = agree (beq a b)
+equate a b = equate_numbers a b
+
+abbrev pub equate_as : Bool → Value → Value → Rule State (Unit {0})
+equate_as true a b = equate a b
+equate_as false a b = halt (wrong_type (codes "="))
+
+-- an equation is one of two values of one type
+unfoldable pub equation : Value → Value → Rule State (Unit {0})
+equation a b s = let left = settled s.slots a in let right = settled s.slots b in equate_as (are_of_one_kind left right) left right s

@@ -13,8 +13,7 @@ use Rattle.mp_values.specs.declared.meaning.Meaning.TheVariants as meaning
 use Rattle.mp_values.specs.declared.value.Value.{Value}
 use Rattle.mp_acts.specs.State.{State, symbol_meaning}
 use Rattle.mp_acts.specs.Operands.{operand, known}
-use Rattle.mp_acts.specs.Variables.{replaced_variable}
-use Rattle.mp_acts.specs.declared.variable.Variable.TheVariants as variable
+use Rattle.mp_acts.specs.Variables.{without_root}
 
 abbrev pub with_symbols : State → Table Meaning → State
 with_symbols s symbols = record s { symbols = symbols }
@@ -23,9 +22,9 @@ with_symbols s symbols = record s { symbols = symbols }
 abbrev pub open_group : State → State
 open_group s = with_symbols s (table.open_group s.symbols)
 
--- the variable of a tag that is taken away is forgotten
+-- the variables of a tag that is taken away are forgotten
 abbrev pub without_tag : Meaning → State → State
-without_tag (meaning.Tag root) s = replaced_variable s root variable.Unread
+without_tag (meaning.Tag root) s = without_root root s
 without_tag m s = s
 
 abbrev pub forgotten : Closed Meaning → State → State

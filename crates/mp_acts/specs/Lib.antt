@@ -1,6 +1,7 @@
 pub mod State
 pub mod Reach
 pub mod Operands
+pub mod Suffixes
 pub mod Arithmetic
 pub mod Texts
 pub mod Lines

@@ -3,10 +3,14 @@ use Rattle.std.specs.Prelude.{ℕ, zero, suc, max, List, [], ◌∷◌, ◌≤�
 use Rattle.mp_pool.specs.declared.Term.{Term}
 use Rattle.mp_forms.specs.Forms.{LinearForm}
 use Rattle.mp_solver.specs.States.{States}
+use Rattle.mp_solver.specs.declared.fresh.Fresh.{Fresh}
+use Rattle.mp_solver.specs.declared.fresh.Fresh.TheVariants.{Made, Limit}
 use Rattle.mp_values.specs.declared.value.Value.{Value}
 use Rattle.mp_values.specs.declared.value.Value.TheVariants.{Boolean, Numeric, Text, Unset, Vacuous}
-use Rattle.mp_acts.specs.declared.variable.Variable.{Variable}
-use Rattle.mp_acts.specs.declared.variable.Variable.TheVariants as variable
+use Rattle.mp_vartree.specs.Variables.{Variables}
+use Rattle.mp_vartree.specs.Laws.{held}
+use Rattle.mp_vartree.specs.declared.entry.Variable.{Variable}
+use Rattle.mp_vartree.specs.declared.names.Part.{Part}
 
 -- serials count from 1: no number of unknowns is enough for 0
 abbrev pub reach_of_serial : ℕ → ℕ
@@ -27,18 +31,29 @@ reach (Text bytes) = 0
 reach (Unset kind slot) = 0
 reach Vacuous = 0
 
-abbrev pub reach_of_variable : Variable → ℕ
-reach_of_variable variable.Unread = 0
-reach_of_variable (variable.Unknown serial) = reach_of_serial serial
-reach_of_variable (variable.Assigned p) = reach_of_form p
+-- what a variable holds, if it has a value
+abbrev pub reach_of_variable : Option Variable → ℕ
+reach_of_variable None = 0
+reach_of_variable (Some x) = reach x.value
+
+-- an unknown that was made
+abbrev pub reach_of_fresh : Fresh → ℕ
+reach_of_fresh (Made serial) = reach_of_serial serial
+reach_of_fresh Limit = 0
+
+-- what stands in a slot
+abbrev pub reach_of_slot : Option Value → ℕ
+reach_of_slot None = 0
+reach_of_slot (Some v) = reach v
 
 -- what is known of an unknown: nothing, or the form that it equals
 abbrev pub reach_of_known : Option LinearForm → ℕ
 reach_of_known None = 0
 reach_of_known (Some p) = reach_of_form p
 
--- the variables, and the forms that unknowns equal, speak of these unknowns alone; there are at most a million
-pub record AreWithin (unknowns : States) (variables : List Variable) : Type 0 where
+-- the variables, the slots and the forms that unknowns equal speak of these unknowns alone; there are at most a million
+pub record AreWithin (unknowns : States) (variables : Variables) (slots : List (Option Value)) : Type 0 where
   pub few : length unknowns ≤ 1000000
   pub forms : All (λ known. reach_of_known known ≤ length unknowns) unknowns
-  pub held : All (λ v. reach_of_variable v ≤ length unknowns) variables
+  pub held : (name : List Part) → reach_of_variable (held variables name) ≤ length unknowns
+  pub filled : All (λ slot. reach_of_slot slot ≤ length unknowns) slots

@@ -5,27 +5,29 @@ use Rattle.mp_symbols.specs.Tables.{Table}
 use Rattle.mp_values.specs.Words.{name_of_word}
 use Rattle.mp_values.specs.declared.meaning.Meaning.{Meaning}
 use Rattle.mp_values.specs.declared.meaning.Meaning.TheVariants as meaning
+use Rattle.mp_values.specs.declared.value.Kind.TheVariants as kind
 use Rattle.mp_values.specs.declared.word.Command.TheVariants as command
 use Rattle.mp_values.specs.declared.word.Word.{Word}
 use Rattle.mp_values.specs.declared.word.Word.TheVariants as word
+use Rattle.mp_vartree.specs.Variables.{no_variables}
 use Rattle.mp_acts.specs.State.{State}
 
 -- the words that are built
 abbrev pub words : List Word
 words =
     word.Plus ∷ word.Minus ∷ word.Times ∷ word.Slash ∷ word.Comma ∷ word.Semicolon ∷ word.Equals ∷ word.Assign
-    ∷ word.Begingroup ∷ word.Endgroup ∷ word.End
+    ∷ word.LeftBracket ∷ word.RightBracket ∷ word.Str ∷ word.Begingroup ∷ word.Endgroup ∷ word.End
     ∷ word.Command command.Show ∷ word.Command command.Save ∷ word.Command command.Interim ∷ word.Command command.Let
     ∷ word.Command command.Delimiters ∷ word.Command command.Newinternal
     ∷ word.Command command.Message ∷ word.Command command.Errmessage ∷ word.Command command.Errhelp
     ∷ word.Command command.Batchmode ∷ word.Command command.Scrollmode ∷ word.Command command.Nonstopmode ∷ word.Command command.Errorstopmode
+    ∷ word.Command (command.Type kind.Boolean) ∷ word.Command (command.Type kind.Numeric) ∷ word.Command (command.Type kind.Text)
     ∷ []
 
 -- types, pictures and figures
 abbrev pub drawing_words : List (List ℕ)
 drawing_words =
-    codes "boolean" ∷ codes "numeric" ∷ codes "pair" ∷ codes "color" ∷ codes "rgbcolor" ∷ codes "transform" ∷
-    codes "string" ∷ codes "path" ∷ codes "pen" ∷ codes "picture" ∷ codes "addto" ∷ codes "contour" ∷
+    codes "pair" ∷ codes "color" ∷ codes "rgbcolor" ∷ codes "transform" ∷ codes "path" ∷ codes "pen" ∷ codes "picture" ∷ codes "addto" ∷ codes "contour" ∷
     codes "doublepath" ∷ codes "also" ∷ codes "withpen" ∷ codes "withcolor" ∷ codes "dashed" ∷ codes "clip" ∷
     codes "to" ∷ codes "setbounds" ∷ codes "shipout" ∷ codes "special" ∷ codes "randomseed" ∷ []
 
@@ -48,7 +50,7 @@ operand_words =
     codes "xpart" ∷ codes "ypart" ∷ codes "xxpart" ∷ codes "xypart" ∷ codes "yxpart" ∷ codes "yypart" ∷
     codes "redpart" ∷ codes "greenpart" ∷ codes "bluepart" ∷ codes "decimal" ∷ codes "char" ∷ codes "ASCII" ∷
     codes "oct" ∷ codes "hex" ∷ codes "length" ∷ codes "reverse" ∷ codes "makepath" ∷ codes "llcorner" ∷
-    codes "lrcorner" ∷ codes "ulcorner" ∷ codes "urcorner" ∷ codes "fontsize" ∷ codes "str" ∷ codes "point" ∷
+    codes "lrcorner" ∷ codes "ulcorner" ∷ codes "urcorner" ∷ codes "fontsize" ∷ codes "point" ∷
     codes "precontrol" ∷ codes "postcontrol" ∷ codes "subpath" ∷ codes "substring" ∷ codes "directiontime" ∷ []
 
 -- operators between two operands, and the signs of paths
@@ -57,7 +59,7 @@ operator_words =
     codes "and" ∷ codes "or" ∷ codes "infont" ∷ codes "++" ∷ codes "+-+" ∷ codes "<" ∷ codes "<=" ∷ codes ">" ∷
     codes ">=" ∷ codes "<>" ∷ codes "&" ∷ codes "scaled" ∷ codes "xscaled" ∷ codes "yscaled" ∷ codes "slanted" ∷
     codes "rotated" ∷ codes "zscaled" ∷ codes "shifted" ∷ codes "transformed" ∷ codes ".." ∷ codes "tension" ∷
-    codes "controls" ∷ codes "atleast" ∷ codes "curl" ∷ codes "{" ∷ codes "}" ∷ codes "[" ∷ codes "]" ∷ []
+    codes "controls" ∷ codes "atleast" ∷ codes "curl" ∷ codes "{" ∷ codes "}" ∷ []
 
 -- all others
 abbrev pub other_words : List (List ℕ)
@@ -132,4 +134,10 @@ first_symbols = record { names = with_entries [] first_entries; internals = map 
 
 -- no variables, no unknowns and no lines
 abbrev pub first_state : State
-first_state = record { symbols = first_symbols; variables = []; unknowns = record { states = []; names = [] }; lines = [] }
+first_state = record {
+  symbols = first_symbols;
+  variables = no_variables;
+  slots = [];
+  unknowns = record { states = []; names = [] };
+  lines = [];
+}

@@ -1,17 +1,20 @@
 -- What statements act on.
-use Rattle.std.specs.Prelude.{ℕ, ℤ, pos, List, [], unwrap_or, length, slice_get}
+use Rattle.std.specs.Prelude.{ℕ, ℤ, pos, List, [], Option, unwrap_or, length, slice_get}
 use Rattle.mp_symbols.specs.Names.{name_in, meaning_in}
 use Rattle.mp_symbols.specs.Tables.{Table}
 use Rattle.mp_solver.specs.States.{Unknowns}
 use Rattle.mp_values.specs.declared.meaning.Meaning.{Meaning}
 use Rattle.mp_values.specs.declared.meaning.Meaning.TheVariants.{NewTag}
-use Rattle.mp_acts.specs.declared.variable.Variable.{Variable}
+use Rattle.mp_values.specs.declared.value.Value.{Value}
+use Rattle.mp_vartree.specs.Variables.{Variables}
 
 pub record State : Type 0 where
   -- names with their meanings, internals, and what the open groups give back
   pub symbols : Table Meaning
-  -- the variables without a suffix, by their roots
-  pub variables : List Variable
+  -- the variables and what was declared of them
+  pub variables : Variables
+  -- the slots of variables that were read without a value and are no numbers: what each was filled with, if it was
+  pub slots : List (Option Value)
   -- the unknowns that were made, and what the equations so far say of them
   pub unknowns : Unknowns
   -- the lines so far

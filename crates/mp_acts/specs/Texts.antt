@@ -7,12 +7,12 @@ use Rattle.mp_scaled.specs.Print.{printed}
 use Rattle.mp_forms.specs.Forms.{LinearForm}
 use Rattle.mp_solver.specs.States.{Unknowns, name_of}
 use Rattle.mp_values.specs.Outcome.{Rule, ◌>>=◌, give}
+use Rattle.mp_values.specs.Words.{name_of_kind}
 use Rattle.mp_values.specs.declared.value.Kind.{Kind}
-use Rattle.mp_values.specs.declared.value.Kind.TheVariants as kind
 use Rattle.mp_values.specs.declared.value.Value.{Value}
 use Rattle.mp_values.specs.declared.value.Value.TheVariants.{Boolean, Numeric, Text, Unset, Vacuous}
 use Rattle.mp_acts.specs.State.{State}
-use Rattle.mp_acts.specs.Operands.{up_to_date}
+use Rattle.mp_acts.specs.Operands.{up_to_date, settled}
 
 abbrev pub name_or_serial : Option (List ℕ) → ℕ → List ℕ
 name_or_serial (Some name) serial = name
@@ -63,11 +63,6 @@ form_text_by unknowns constant (t ∷ ts) =
 unfoldable pub form_text : Unknowns → LinearForm → List ℕ
 form_text unknowns p = form_text_by unknowns p.constant p.terms
 
-abbrev pub kind_name : Kind → List ℕ
-kind_name kind.Boolean = codes "boolean"
-kind_name kind.Numeric = codes "numeric"
-kind_name kind.Text = codes "string"
-
 abbrev pub truth_text : Bool → List ℕ
 truth_text true = codes "true"
 truth_text false = codes "false"
@@ -77,18 +72,22 @@ abbrev pub quoted : List ℕ → List ℕ
 quoted bytes = codes "\"" ++ bytes ++ codes "\""
 
 abbrev pub unset_text : Kind → List ℕ
-unset_text kind = codes "unknown " ++ kind_name kind
+unset_text kind = codes "unknown " ++ name_of_kind kind
 
 -- what is shown of a form that is up to date
 abbrev pub form_shown : LinearForm → Rule State (List ℕ)
 form_shown p s = Ok (form_text s.unknowns p, s)
 
--- what is shown of a value; a number is brought up to date
-unfoldable pub value_text : Value → Rule State (List ℕ)
-value_text (Numeric p) = do
+-- what is shown of a value that is no open slot; a number is brought up to date
+abbrev pub settled_text : Value → Rule State (List ℕ)
+settled_text (Numeric p) = do
   q ← up_to_date p
   form_shown q
-value_text (Text bytes) = give (quoted bytes)
-value_text (Boolean b) = give (truth_text b)
-value_text (Unset kind slot) = give (unset_text kind)
-value_text Vacuous = give (codes "vacuous")
+settled_text (Text bytes) = give (quoted bytes)
+settled_text (Boolean b) = give (truth_text b)
+settled_text (Unset kind slot) = give (unset_text kind)
+settled_text Vacuous = give (codes "vacuous")
+
+-- what is shown of a value
+unfoldable pub value_text : Value → Rule State (List ℕ)
+value_text v s = settled_text (settled s.slots v) s

@@ -1,6 +1,7 @@
--- Variables without a suffix: their roots, how they are read, and what is assigned.
--- After Knuth, METAFONT: The Program, parts 17 and 44; nameless unknowns are this project's own.
-use Rattle.std.specs.Prelude.{ℕ, pos, ◌-◌, [], ◌∷◌, ◌++◌, Option, Some, None, Ok, Err, length, slice_get, slice_set, codes}
+-- Variables: their roots, their declarations, how they are read, and what is assigned.
+-- After Knuth, METAFONT: The Program, parts 15, 17 and 44; nameless unknowns, and slots in the place of rings, are this project's own.
+use Rattle.std.specs.Prelude.{ℕ, pos, ◌-◌, Bool, true, false, cond, nat_le, ◌&&◌, List, [], ◌∷◌, ◌++◌, Option, Some, None, Result, Ok, Err, length, slice_set, codes}
+use Rattle.std.specs.List.{fold}
 use Rattle.mp_forms.specs.Forms.{LinearForm}
 use Rattle.mp_solver.specs.States.{Unknowns, fresh_of}
 use Rattle.mp_solver.specs.declared.fresh.Fresh.{Fresh}
@@ -8,78 +9,154 @@ use Rattle.mp_solver.specs.declared.fresh.Fresh.TheVariants.{Made, Limit}
 use Rattle.mp_report.specs.declared.error.Cap.TheVariants as cap
 use Rattle.mp_report.specs.declared.error.SourceError.TheVariants as error
 use Rattle.mp_symbols.specs.Groups.{with_symbol, with_internal}
-use Rattle.mp_values.specs.Outcome.{Outcome, Rule, ◌>>=◌, change}
+use Rattle.mp_values.specs.Outcome.{Outcome, Rule, ◌>>=◌, give, change}
+use Rattle.mp_values.specs.Refusals.{wrong_type}
 use Rattle.mp_values.specs.declared.meaning.Meaning.{Meaning}
 use Rattle.mp_values.specs.declared.meaning.Meaning.TheVariants as meaning
 use Rattle.mp_values.specs.declared.stop.Stop.TheVariants.{Refused}
+use Rattle.mp_values.specs.declared.value.Kind.{Kind}
+use Rattle.mp_values.specs.declared.value.Kind.TheVariants as kind
 use Rattle.mp_values.specs.declared.value.Value.{Value}
-use Rattle.mp_values.specs.declared.value.Value.TheVariants.{Numeric}
-use Rattle.mp_acts.specs.State.{State, symbol_name, symbol_meaning}
-use Rattle.mp_acts.specs.Operands.{operand, known}
-use Rattle.mp_acts.specs.declared.variable.Variable.{Variable}
-use Rattle.mp_acts.specs.declared.variable.Variable.TheVariants as variable
-use Rattle.mp_acts.specs.declared.variable.Target.{Target}
-use Rattle.mp_acts.specs.declared.variable.Target.TheVariants as target
+use Rattle.mp_values.specs.declared.value.Value.TheVariants.{Numeric, Unset}
+use Rattle.mp_vartree.specs.Kinds.{kind_of, is_kind}
+use Rattle.mp_vartree.specs.Variables as variables
+use Rattle.mp_vartree.specs.Variables.{Variables, variable_at, wanted_kind, made, made_at}
+use Rattle.mp_vartree.specs.declared.answers.BadDeclaration.{BadDeclaration}
+use Rattle.mp_vartree.specs.declared.entry.Variable.{Variable}
+use Rattle.mp_vartree.specs.declared.names.Part.{Part}
+use Rattle.mp_vartree.specs.declared.names.Shape.{Shape}
+use Rattle.mp_acts.specs.State.{State, symbol_meaning}
+use Rattle.mp_acts.specs.Operands.{up_to_date, operand, known}
+use Rattle.mp_acts.specs.Suffixes.{variable_name}
+use Rattle.mp_acts.specs.declared.target.Target.{Target}
+use Rattle.mp_acts.specs.declared.target.Target.TheVariants as target
 
--- a symbol becomes the tag of a variable that was never used before
+-- ROOTS
+
+-- a symbol becomes the tag of variables that were never used before
 abbrev pub with_new_root : State → ℕ → State
 with_new_root s symbol = record s {
-  variables = s.variables ++ variable.Unread ∷ [];
-  symbols = with_symbol s.symbols symbol (meaning.Tag (length s.variables));
+  variables = variables.with_new_root s.variables;
+  symbols = with_symbol s.symbols symbol (meaning.Tag s.variables.roots);
 }
 
 -- the root of a symbol that means this
 abbrev pub root_by : ℕ → Meaning → Rule State ℕ
 root_by symbol (meaning.Tag root) s = Ok (root, s)
-root_by symbol m s = Ok (length s.variables, with_new_root s symbol)
+root_by symbol m s = Ok (s.variables.roots, with_new_root s symbol)
 
--- the root of a tag; one that has none gets the next
+-- the root of a tag; what has none gets the next, and is a tag from then on
 unfoldable pub root_of : ℕ → Rule State ℕ
 root_of symbol s = root_by symbol (symbol_meaning s symbol) s
+
+-- READING
 
 -- the unknown itself, as a form
 abbrev pub unknown_form : ℕ → LinearForm
 unknown_form serial = record { constant = pos 0; terms = record { serial = serial; coefficient = pos 268435456 } ∷ [] }
 
-abbrev pub with_variable : State → ℕ → Variable → State
-with_variable s root v = record s { variables = slice_set s.variables root v }
+-- a variable holds this; what unknowns are in it may have been made for it
+abbrev pub with_variable : Bool → State → ℕ → List Part → Value → State
+with_variable made s root name v = record s { variables = variables.with_variable s.variables root name (record { value = v; made = made }) }
+
+abbrev pub read_anew : State → ℕ → List Part → Value → Outcome State Value
+read_anew s root name v = Ok (v, with_variable true s root name v)
+
+-- the state after a wish for one more unknown
+abbrev pub with_fresh : State → Fresh × Unknowns → Fresh × State
+with_fresh s answer = (answer.0, record s { unknowns = answer.1 })
 
 -- what comes of a wish for one more unknown, which a variable is to be
-abbrev pub made_unknown : State → ℕ → Fresh × Unknowns → Outcome State Value
-made_unknown s root (Made serial, unknowns) = Ok (Numeric (unknown_form serial), with_variable (record s { unknowns = unknowns }) root (variable.Unknown serial))
-made_unknown s root (Limit, unknowns) = Err (Refused (error.Limit cap.Unknowns 1000000), s)
+abbrev pub made_unknown : State → ℕ → List Part → Fresh × Unknowns → Outcome State Value
+made_unknown s root name (Made serial, unknowns) = read_anew (record s { unknowns = unknowns }) root name (Numeric (unknown_form serial))
+made_unknown s root name (Limit, unknowns) = Err (Refused (error.Limit cap.Unknowns 1000000), s)
 
--- the value of a variable; one that has none becomes a new unknown of that name
-abbrev pub value_of : ℕ → ℕ → Option Variable → Rule State Value
-value_of symbol root (Some (variable.Unknown serial)) s = Ok (Numeric (unknown_form serial), s)
-value_of symbol root (Some (variable.Assigned p)) s = Ok (Numeric p, s)
-value_of symbol root v s = made_unknown s root (fresh_of s.unknowns (symbol_name s symbol))
+-- a variable gets a new slot, which is open
+abbrev pub made_slot : State → ℕ → List Part → Kind → Outcome State Value
+made_slot s root name kind = read_anew (record s { slots = s.slots ++ None ∷ [] }) root name (Unset kind (length s.slots))
 
--- the value of the variable of a root, whose tag that symbol is
-unfoldable pub read : ℕ → ℕ → Rule State Value
-read symbol root s = value_of symbol root (slice_get s.variables root) s
+-- a number becomes a new unknown of the variable's name, and any other variable gets a slot
+abbrev pub made_value : ℕ → ℕ → List Part → Kind → Rule State Value
+made_value symbol root name kind.Numeric s = made_unknown s root name (fresh_of s.unknowns (variable_name s symbol name))
+made_value symbol root name kind s = made_slot s root name kind
 
--- an unknown whose variable is given up has no name any more
+abbrev pub value_of : ℕ → ℕ → List Part → Option Variable → Rule State Value
+value_of symbol root name (Some x) s = Ok (x.value, s)
+value_of symbol root name None s = made_value symbol root name (wanted_kind s.variables root name) s
+
+-- the value of a variable of a root, whose tag that symbol is
+unfoldable pub read : ℕ → ℕ → List Part → Rule State Value
+read symbol root name s = value_of symbol root name (variable_at s.variables root name) s
+
+-- GIVING UP
+
+-- serials count from 1
+abbrev pub is_unknown : Unknowns → ℕ → Bool
+is_unknown unknowns serial = nat_le 1 serial && nat_le serial (length unknowns.states)
+
+-- an unknown loses its name; a number that is none of an unknown changes nothing
 abbrev pub without_name : Unknowns → ℕ → Unknowns
-without_name unknowns serial = record unknowns { names = slice_set unknowns.names (serial - 1) None }
+without_name unknowns serial = cond (is_unknown unknowns serial) (record unknowns { names = slice_set unknowns.names (serial - 1) None }) unknowns
 
--- the value of a variable is given up
-abbrev pub given_up : State → Option Variable → State
-given_up s (Some (variable.Unknown serial)) = record s { unknowns = without_name s.unknowns serial }
-given_up s v = s
+unfoldable pub without_names : Unknowns → List ℕ → Unknowns
+without_names unknowns serials = fold without_name unknowns serials
 
--- a variable that had a value has this one now
-abbrev pub replaced_variable : State → ℕ → Variable → State
-replaced_variable s root new = with_variable (given_up s (slice_get s.variables root)) root new
+abbrev pub nameless : State → List ℕ → State
+nameless s serials = record s { unknowns = without_names s.unknowns serials }
 
-abbrev pub store : Target → LinearForm → Rule State (Unit {0})
-store (target.Variable root) p = change (λ s. replaced_variable s root (variable.Assigned p))
-store (target.Internal k) p = do
+-- the state with these variables, of which unknowns were given up
+abbrev pub giving_up : State → Variables → List ℕ → State
+giving_up s variables serials = nameless (record s { variables = variables }) serials
+
+-- the variables and declarations of a root are forgotten
+unfoldable pub without_root : ℕ → State → State
+without_root root s = giving_up s (variables.forget s.variables root) (made s.variables root [] true)
+
+-- DECLARATIONS
+
+abbrev pub declared_by : List ℕ → Result (Unit {0}) BadDeclaration × Variables → Rule State (Unit {0})
+declared_by serials (Ok x, variables) s = Ok (tt, giving_up s variables serials)
+declared_by serials (Err refused, variables) s = Err (Refused error.BadDeclaration, s)
+
+abbrev pub declare_root : List Shape → Kind → ℕ → Rule State (Unit {0})
+declare_root name kind root s = declared_by (made s.variables root name false) (variables.declare s.variables root name kind) s
+
+-- the variables of a pattern get a type, and lose their values
+unfoldable pub declare : ℕ → List Shape → Kind → Rule State (Unit {0})
+declare symbol name kind = do
+  root ← root_of symbol
+  declare_root name kind root
+
+-- ASSIGNMENTS
+
+-- a value must have the type of the variable
+abbrev pub of_type : ℕ → List Part → Value → Rule State (Unit {0})
+of_type root name v s = cond (is_kind (wanted_kind s.variables root name) (kind_of v)) (Ok (tt, s)) (Err (wrong_type (codes ":="), s))
+
+-- a number is brought up to date
+abbrev pub current : Value → Rule State Value
+current (Numeric p) = do
+  q ← up_to_date p
+  give (Numeric q)
+current v = give v
+
+-- the value of a variable is given up for another
+abbrev pub replaced : State → ℕ → List Part → Value → State
+replaced s root name v = giving_up s (with_variable false s root name v).variables (made_at s.variables root name)
+
+abbrev pub assign_variable : ℕ → List Part → Value → Rule State (Unit {0})
+assign_variable root name v = do
+  typed ← of_type root name v
+  new ← current v
+  change (λ s. replaced s root name new)
+
+abbrev pub assign_internal : ℕ → Value → Rule State (Unit {0})
+assign_internal k v = do
+  p ← operand (codes ":=") v
   value ← known (codes ":=") p
   change (λ s. record s { symbols = with_internal s.symbols k value })
 
--- a number assigned to a variable, or to an internal, which must be known
+-- a value is assigned to a variable, or to an internal, for which it must be a known number
 unfoldable pub assign : Target → Value → Rule State (Unit {0})
-assign to v = do
-  p ← operand (codes ":=") v
-  store to p
+assign (target.Variable root name) v = assign_variable root name v
+assign (target.Internal k) v = assign_internal k v

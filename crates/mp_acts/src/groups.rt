@@ -1,12 +1,13 @@
 //! Groups, and the statements that change what symbols mean.
 
-ghost use Rattle.std.specs.Prelude.{◌≡◌, ◌≤◌, ◌<◌, length, IsTrue, true, false};
+ghost use Rattle.std.specs.Prelude.{◌≡◌, ◌≤◌, ◌<◌, Ok, length, true, false, OnOk};
 ghost use Rattle.mp_values.specs.Outcome.{Gives, change};
 ghost use Rattle.mp_acts.specs.State.{unknown_count};
 ghost use Rattle.mp_acts.specs.Reach.{reach};
 ghost use Rattle.mp_acts.specs.Groups as groups;
 
-use crate::{State, Variable, table};
+use crate::{State, table};
+use mp_scaled::NoMemory;
 use mp_symbols::Closed;
 use mp_values::{Delimiters, Meaning, Stop, Value};
 
@@ -21,37 +22,42 @@ impl State {
     }
 
     /// Ends a group: what was changed for it is undone, the newest change first.
-    pub fn do_end_group(&mut self)
-        ensures exact { self.new ≡ groups.end_group self.old }
+    ///
+    /// Want of memory may leave the older ones.
+    pub fn do_end_group(&mut self) -> Result<(), Stop>
+        ensures exact { Gives result self.new (change groups.end_group self.old) }
         ensures counts { unknown_count self.old ≤ unknown_count self.new }
     {
-        'changes: while self.undo() {}
+        'changes: while self.undo()? {}
+        Ok(())
     }
 
     /// Undoes the newest change of the group. The answer is no where the group has ended.
-    #[tactic(auto, unfolding(crate::specs::Groups::end_group, crate::specs::Groups::undo_group))]
-    fn undo(&mut self) -> bool
-        ensures more { result ≡ true → groups.end_group self.new ≡ groups.end_group self.old }
-        ensures last { result ≡ false → self.new ≡ groups.end_group self.old }
-        ensures fewer { result ≡ true → length self.new.symbols.saved < length self.old.symbols.saved }
+    #[tactic(auto, unfolding(crate::specs::Groups::end_group, crate::specs::Groups::undo_group, crate::specs::Variables::without_root))]
+    fn undo(&mut self) -> Result<bool, NoMemory>
+        ensures more { result ≡ Ok true → groups.end_group self.new ≡ groups.end_group self.old }
+        ensures last { result ≡ Ok false → self.new ≡ groups.end_group self.old }
+        ensures fewer { result ≡ Ok true → length self.new.symbols.saved < length self.old.symbols.saved }
         ensures counts { unknown_count self.old ≡ unknown_count self.new }
     {
         match self.symbols.close_group() {
             Closed::Meaning(_, given_up) => {
-                self.forget(given_up);
-                true
+                self.forget(given_up)?;
+                Ok(true)
             }
-            Closed::Number(_) => true,
-            Closed::Boundary | Closed::NoGroup => false,
+            Closed::Number(_) => Ok(true),
+            Closed::Boundary | Closed::NoGroup => Ok(false),
         }
     }
 
-    /// Forgets the variable of a tag that is taken away.
-    fn forget(&mut self, given_up: Meaning)
-        ensures { self.new ≡ groups.without_tag given_up self.old }
+    /// Forgets the variables of a tag that is taken away.
+    fn forget(&mut self, given_up: Meaning) -> Result<(), NoMemory>
+        ensures exact { OnOk result (self.new ≡ groups.without_tag given_up self.old) }
+        ensures counts { unknown_count self.new ≡ unknown_count self.old }
     {
-        if let Meaning::Tag(root) = given_up {
-            self.replace_variable(root, Variable::Unread);
+        match given_up {
+            Meaning::Tag(root) => self.forget_root(root),
+            _ => Ok(()),
         }
     }
 

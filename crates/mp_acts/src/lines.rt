@@ -42,9 +42,10 @@ impl State {
         self.do_line(line.as_slice())
     }
 
-    /// Writes a string as a line: `WrongType` for any other value.
+    /// Writes a string as a line: `WrongType` for a value that is none, `NotKnown` for one without a value.
     #[tactic(auto, unfolding(crate::specs::Lines::message))]
     pub fn do_message(&mut self, value: &Value) -> Result<(), Stop>
+        requires { reach value.now ≤ unknown_count self.old }
         ensures exact { Gives result self.new (lines.message value.now self.old) }
         ensures counts { unknown_count self.old ≤ unknown_count self.new }
     {
@@ -52,9 +53,10 @@ impl State {
         self.do_line(text.as_slice())
     }
 
-    /// Ends the run with a string as its error, `UserError`; any other value is refused with `WrongType`.
+    /// Ends the run with a string as its error, `UserError`; `WrongType` and `NotKnown` as for a message.
     #[tactic(auto, unfolding(crate::specs::Lines::errmessage))]
     pub fn do_errmessage(&self, value: &Value) -> Result<(), Stop>
+        requires { reach value.now ≤ unknown_count self.now }
         ensures exact { Gives result self.now (lines.errmessage value.now self.now) }
     {
         let text = self.text(b"errmessage", value)?;
@@ -62,9 +64,10 @@ impl State {
         Err(Stop::Refused(SourceError::UserError(text)))
     }
 
-    /// Takes a string as help, which has no effect: `WrongType` for any other value.
+    /// Takes a string as help, which has no effect; `WrongType` and `NotKnown` as for a message.
     #[tactic(auto, unfolding(crate::specs::Lines::errhelp))]
     pub fn do_errhelp(&self, value: &Value) -> Result<(), Stop>
+        requires { reach value.now ≤ unknown_count self.now }
         ensures exact { Gives result self.now (lines.errhelp value.now self.now) }
     {
         self.text(b"errhelp", value)?;

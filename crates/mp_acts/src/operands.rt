@@ -1,6 +1,6 @@
 //! Operands: their types, brought up to date, known.
 
-ghost use Rattle.std.specs.Prelude.{◌≡◌, ◌≤◌, IfOk};
+ghost use Rattle.std.specs.Prelude.{◌≡◌, ◌≤◌, IfOk, IfSome, option_copied};
 ghost use Rattle.mp_values.specs.Outcome.{Gives, IsStop};
 ghost use Rattle.mp_values.specs.Refusals as refusals;
 ghost use Rattle.mp_acts.specs.State.{unknown_count};
@@ -11,7 +11,7 @@ ghost use Rattle.mp_acts.specs.Arithmetic as arithmetic;
 use crate::State;
 use mp_forms::Form;
 use mp_scaled::SharedSlice;
-use mp_values::{Stop, Value};
+use mp_values::{Kind, Stop, Value};
 
 impl State {
     /// A form in which each unknown that equations have solved for is replaced by what it equals.
@@ -70,12 +70,37 @@ impl State {
         }
     }
 
-    /// The bytes of a string, shared.
-    pub(crate) fn text(&self, op: &[u8], value: &Value) -> Result<SharedSlice<u8>, Stop>
-        ensures { Gives result self.now (operands.text op.now value.now self.now) }
+    /// What a slot was filled with, if it was.
+    fn slot(&self, slot: u32) -> Option<&Value>
+        ensures held { option_copied result ≡ operands.slot_in self.now.slots slot }
+        ensures within { IfSome result (λ v. reach v.now ≤ unknown_count self.now) }
+    {
+        match self.slots.get(slot as usize) {
+            Some(filled) => filled.as_ref(),
+            None => None,
+        }
+    }
+
+    /// The value itself, or what its slot was filled with.
+    pub(crate) fn settled<'a>(&'a self, value: &'a Value) -> &'a Value
+        requires { reach value.now ≤ unknown_count self.now }
+        ensures exact { result.now ≡ operands.settled self.now.slots value.now }
+        ensures within { reach result.now ≤ unknown_count self.now }
     {
         match value {
+            Value::Unset(_, slot) => self.slot(*slot).unwrap_or(value),
+            _ => value,
+        }
+    }
+
+    /// The bytes of a string, shared; it must be known.
+    pub(crate) fn text(&self, op: &[u8], value: &Value) -> Result<SharedSlice<u8>, Stop>
+        requires { reach value.now ≤ unknown_count self.now }
+        ensures { Gives result self.now (operands.text op.now value.now self.now) }
+    {
+        match self.settled(value) {
             Value::Text(bytes) => Ok(bytes.share()?),
+            Value::Unset(Kind::Text, _) => Err(Stop::not_known(self.alloc, op)),
             _ => Err(Stop::wrong_type(self.alloc, op)),
         }
     }

@@ -8,6 +8,7 @@ use mp_scaled::{Bytes, NoMemory};
 use mp_solver::System;
 use mp_symbols::Symbols;
 use mp_values::{Delimiters, Meaning, UnbuiltWord, Word};
+use mp_vartree::Vars;
 use std::alloc::Global;
 
 impl State {
@@ -19,7 +20,8 @@ impl State {
         Ok(State {
             alloc,
             symbols: first_symbols(alloc)?,
-            variables: Vec::new(alloc),
+            variables: Vars::new(alloc),
+            slots: Vec::new(alloc),
             system: System::new(alloc),
             count: 0,
             lines: Bytes::new(alloc),
@@ -110,14 +112,11 @@ fn add_unbuilt_words(
 // The words of the language that are not built.
 
 /// Types, pictures and figures.
-const DRAWING_WORDS: [&[u8]; 23] = [
-    b"boolean",
-    b"numeric",
+const DRAWING_WORDS: [&[u8]; 20] = [
     b"pair",
     b"color",
     b"rgbcolor",
     b"transform",
-    b"string",
     b"path",
     b"pen",
     b"picture",
@@ -174,7 +173,7 @@ const MACRO_WORDS: [&[u8]; 33] = [
 ];
 
 /// Operands, and operators that stand in front of one.
-const OPERAND_WORDS: [&[u8]; 47] = [
+const OPERAND_WORDS: [&[u8]; 46] = [
     b"true",
     b"false",
     b"nullpicture",
@@ -215,7 +214,6 @@ const OPERAND_WORDS: [&[u8]; 47] = [
     b"ulcorner",
     b"urcorner",
     b"fontsize",
-    b"str",
     b"point",
     b"precontrol",
     b"postcontrol",
@@ -225,7 +223,7 @@ const OPERAND_WORDS: [&[u8]; 47] = [
 ];
 
 /// Operators between two operands, and the signs of paths.
-const OPERATOR_WORDS: [&[u8]; 28] = [
+const OPERATOR_WORDS: [&[u8]; 26] = [
     b"and",
     b"or",
     b"infont",
@@ -252,8 +250,6 @@ const OPERATOR_WORDS: [&[u8]; 28] = [
     b"curl",
     b"{",
     b"}",
-    b"[",
-    b"]",
 ];
 
 /// All others.

@@ -4,23 +4,25 @@ ghost use Rattle.std.specs.Prelude.{◌≡◌, length};
 ghost use Rattle.mp_solver.specs.Elimination.{forms_in};
 ghost use Rattle.mp_acts.specs.State.{unknown_count};
 
-use crate::Variable;
 use mp_scaled::Bytes;
 use mp_solver::System;
 use mp_symbols::Symbols;
-use mp_values::Meaning;
+use mp_values::{Meaning, Value};
+use mp_vartree::Vars;
 use std::alloc::Global;
 use std::marker::Model;
 
-/// What statements act on. Contracts see the symbols, the variables, the unknowns and the lines.
+/// What statements act on. Contracts see the symbols, the variables, the slots, the unknowns and the lines.
 ///
-/// The variables speak of unknowns that there are, and the unknowns stand as the replay of the events so far leaves
-/// them.
+/// The variables and the slots speak of unknowns that there are, and the unknowns stand as the replay of the events so
+/// far leaves them.
 #[derive(Drop)]
 pub struct State {
     pub(crate) alloc: Global,
     pub(crate) symbols: Symbols<Meaning>,
-    pub(crate) variables: Vec<Variable>,
+    pub(crate) variables: Vars,
+    /// What the slots of variables without a value were filled with.
+    pub(crate) slots: Vec<Option<Value>>,
     pub(crate) system: System,
     /// The number of unknowns.
     pub(crate) count: u32,
@@ -37,12 +39,13 @@ impl Model for State {
 
     ghost view = { λ s. record {
       symbols = s.symbols;
-      variables = s.variables.items;
+      variables = s.variables;
+      slots = s.slots.items;
       unknowns = s.system;
       lines = s.lines;
     } };
 
-    ghost invariant = { λ s. (s.count ≡ length s.system.states) × AreWithin s.system.states s.variables.items × HasEvents s.system };
+    ghost invariant = { λ s. (s.count ≡ length s.system.states) × AreWithin s.system.states s.variables s.slots.items × HasEvents s.system };
 }
 
 impl State {

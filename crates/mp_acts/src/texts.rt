@@ -25,6 +25,14 @@ impl State {
         requires { reach value.now ≤ unknown_count self.now }
         ensures { Gives result self.now (texts.value_text value.now self.now) }
     {
+        self.settled_text(self.settled(value))
+    }
+
+    /// What is shown of a value that is no filled slot.
+    fn settled_text(&self, value: &Value) -> Result<Bytes, Stop>
+        requires { reach value.now ≤ unknown_count self.now }
+        ensures { Gives result self.now (texts.settled_text value.now self.now) }
+    {
         match value {
             Value::Numeric(form) => {
                 let form = self.up_to_date(form)?;
@@ -51,7 +59,7 @@ impl State {
         ensures { IfOk result (λ text. text ≡ texts.unset_text kind) }
     {
         let mut text = Bytes::copy_of(self.alloc, b"unknown ")?;
-        text.append(kind_name(kind))?;
+        text.append(kind.name())?;
         Ok(text)
     }
 
@@ -193,16 +201,6 @@ fn first_sign(number: i64) -> &'static [u8]
     ensures { result.now ≡ texts.first_sign number }
 {
     if number < 0 { b"-" } else { b"" }
-}
-
-fn kind_name(kind: Kind) -> &'static [u8]
-    ensures { result.now ≡ texts.kind_name kind }
-{
-    match kind {
-        Kind::Boolean => b"boolean",
-        Kind::Numeric => b"numeric",
-        Kind::Text => b"string",
-    }
 }
 
 fn truth_text(truth: bool) -> &'static [u8]

@@ -1,21 +1,25 @@
-//! Variables without a suffix.
+//! Variables: their roots, their declarations, how they are read, and what is assigned.
 
-ghost use Rattle.std.specs.Prelude.{◌≡◌, ◌≤◌, [], ◌∷◌, ◌++◌, length, slice_get, option_copied, IfSome, IfOk, OnOk, OnErr};
+ghost use Rattle.std.specs.Prelude.{◌≡◌, ◌≤◌, true, [], ◌∷◌, ◌++◌, None, length, IfOk, IfSome, OnOk, OnErr};
+ghost use Rattle.std.specs.Option.{option_map};
 ghost use Rattle.mp_solver.specs.States.{fresh_of};
-ghost use Rattle.mp_values.specs.Outcome.{Gives};
+ghost use Rattle.mp_values.specs.Outcome.{Gives, change};
 ghost use Rattle.mp_values.specs.declared.meaning.Meaning.TheVariants.{NewTag};
 ghost use Rattle.mp_values.specs.declared.value.Value.TheVariants.{Numeric};
+ghost use Rattle.mp_vartree.specs.Kinds.{kind_of, is_kind};
+ghost use Rattle.mp_vartree.specs.Variables.{variable_at, wanted_kind};
 ghost use Rattle.mp_acts.specs.State.{unknown_count, symbol_name, symbol_meaning, internal_value};
-ghost use Rattle.mp_acts.specs.Reach.{reach, reach_of_serial, reach_of_variable};
+ghost use Rattle.mp_acts.specs.Reach.{reach, reach_of_serial, reach_of_fresh};
 ghost use Rattle.mp_acts.specs.Arithmetic.{known_number};
 ghost use Rattle.mp_acts.specs.Variables as variables;
 
-use crate::{State, Target, Variable, table};
+use crate::{State, Target, table};
 use mp_forms::Form;
 use mp_report::{Cap, SourceError};
 use mp_scaled::NoMemory;
-use mp_solver::Fresh;
-use mp_values::{Meaning, Stop, Value};
+use mp_solver::{Fresh, System};
+use mp_values::{Kind, Meaning, Stop, Value};
+use mp_vartree::{Part, Shape, Variable, has_kind};
 use std::alloc::Global;
 
 /// So many unknowns can be made.
@@ -46,7 +50,7 @@ impl State {
         Value::Numeric(Form::constant_of(self.alloc, units))
     }
 
-    /// The root of a tag; one that has none gets the next.
+    /// The root of a tag; what has none gets the next, and is a tag from then on.
     #[tactic(auto, unfolding(crate::specs::Variables::root_of))]
     pub fn root_of(&mut self, symbol: u32) -> Result<u32, Stop>
         ensures exact { Gives result self.new (variables.root_of symbol self.old) }
@@ -58,98 +62,229 @@ impl State {
         }
     }
 
-    /// Makes a symbol the tag of a variable that was never used before.
+    /// Makes a symbol the tag of variables that were never used before.
     fn new_root(&mut self, symbol: u32) -> Result<u32, Stop>
         ensures exact { Gives result self.new (variables.root_by symbol NewTag self.old) }
         ensures counts { unknown_count self.new ≡ unknown_count self.old }
     {
-        let root = add_unread(&mut self.variables)?;
+        let root = self.variables.new_root()?;
         table::set_meaning(&mut self.symbols, symbol, Meaning::Tag(root));
         Ok(root)
     }
 
-    /// The value of the variable of a root, whose tag that symbol is. One that has none becomes a new unknown of
-    /// the symbol's name: `Limit` where there are 1,000,000.
+    /// The value of the variable of a root, whose tag that symbol is, with these parts behind it.
+    ///
+    /// A number without a value becomes a new unknown of the variable's name, `Limit` where there are 1,000,000; any other
+    /// variable without a value gets a new slot.
     #[tactic(auto, unfolding(crate::specs::Variables::read))]
-    pub fn do_read(&mut self, symbol: u32, root: u32) -> Result<Value, Stop>
-        ensures exact { Gives result self.new (variables.read symbol root self.old) }
+    pub fn do_read(&mut self, symbol: u32, root: u32, name: &[Part]) -> Result<Value, Stop>
+        ensures exact { Gives result self.new (variables.read symbol root name.now self.old) }
         ensures within { IfOk result (λ v. reach v ≤ unknown_count self.new) }
         ensures counts { unknown_count self.old ≤ unknown_count self.new }
     {
-        match self.variable(root) {
-            Some(Variable::Unknown(serial)) => Ok(unknown_value(self.alloc, *serial)?),
-            Some(Variable::Assigned(form)) => Ok(Value::Numeric(form.copy(self.alloc)?)),
-            Some(Variable::Unread) | None => self.new_unknown(symbol, root),
+        match self.value(root, name) {
+            Some(value) => Ok(value.copy(self.alloc)?),
+            None => self.read_anew(symbol, root, name),
         }
     }
 
-    /// What a variable holds; none past the variables.
-    fn variable(&self, root: u32) -> Option<&Variable>
-        ensures held { option_copied result ≡ slice_get self.now.variables root }
-        ensures within { IfSome result (λ v. reach_of_variable v.now ≤ unknown_count self.now) }
+    /// The value of a variable, if it has one.
+    fn value(&self, root: u32, name: &[Part]) -> Option<&Value>
+        ensures held { option_map (λ v. v.now) result ≡ option_map (λ x. x.value) (variable_at self.now.variables root name.now) }
+        ensures within { IfSome result (λ v. reach v.now ≤ unknown_count self.now) }
     {
-        self.variables.get(root as usize)
+        match self.variables.variable_at(root, name) {
+            Some(variable) => Some(&variable.value),
+            None => None,
+        }
     }
 
-    /// Makes a variable a new unknown of a symbol's name.
-    fn new_unknown(&mut self, symbol: u32, root: u32) -> Result<Value, Stop>
-        ensures exact { Gives result self.new (variables.made_unknown self.old root (fresh_of self.old.unknowns (symbol_name self.old symbol))) }
+    /// Gives a variable an unknown or a slot of its own.
+    fn read_anew(&mut self, symbol: u32, root: u32, name: &[Part]) -> Result<Value, Stop>
+        ensures exact { Gives result self.new (variables.value_of symbol root name.now None self.old) }
         ensures within { IfOk result (λ v. reach v ≤ unknown_count self.new) }
         ensures counts { unknown_count self.old ≤ unknown_count self.new }
     {
-        let name = table::name_of(&self.symbols, symbol);
-        match self.system.fresh(name)? {
+        match self.wanted_kind(root, name) {
+            Kind::Numeric => self.new_unknown(symbol, root, name),
+            kind => self.new_slot(root, name, kind),
+        }
+    }
+
+    /// The type that a value must have to be stored: the declared one, else numeric.
+    fn wanted_kind(&self, root: u32, name: &[Part]) -> Kind
+        ensures { result ≡ wanted_kind self.now.variables root name.now }
+    {
+        self.variables.type_of(root, name).unwrap_or(Kind::Numeric)
+    }
+
+    /// Makes a variable a new unknown of its name.
+    fn new_unknown(&mut self, symbol: u32, root: u32, name: &[Part]) -> Result<Value, Stop>
+        requires { wanted_kind self.old.variables root name.now ≡ Kind.Numeric }
+        ensures exact { Gives result self.new (variables.made_value symbol root name.now Kind.Numeric self.old) }
+        ensures within { IfOk result (λ v. reach v ≤ unknown_count self.new) }
+        ensures counts { unknown_count self.old ≤ unknown_count self.new }
+    {
+        let text = self.variable_name(symbol, name)?;
+        match self.fresh_unknown(text.as_slice())? {
             Fresh::Made(serial) => {
-                self.count += 1;
-                self.set_variable(root, Variable::Unknown(serial));
-                Ok(unknown_value(self.alloc, serial)?)
+                let value = unknown_value(self.alloc, serial)?;
+                self.keep_made(root, name, value)
             }
             Fresh::Limit => Err(Stop::Refused(SourceError::Limit(Cap::Unknowns, UNKNOWN_LIMIT))),
         }
     }
 
-    /// Gives a variable another value; a root past the variables changes nothing.
-    fn set_variable(&mut self, root: u32, new: Variable)
-        requires { reach_of_variable new ≤ unknown_count self.old }
-        ensures { self.new ≡ variables.with_variable self.old root new }
+    /// One more unknown of that name, unless there are so many already.
+    fn fresh_unknown(&mut self, name: &[u8]) -> Result<Fresh, NoMemory>
+        ensures exact { IfOk result (λ answer. (answer, self.new) ≡ variables.with_fresh self.old (fresh_of self.old.unknowns name.now)) }
+        ensures within { IfOk result (λ answer. reach_of_fresh answer ≤ unknown_count self.new) }
+        ensures counts { unknown_count self.old ≤ unknown_count self.new }
     {
-        if (root as usize) < self.variables.len() {
-            self.variables[root as usize] = new;
+        let answer = self.system.fresh(name)?;
+        if let Fresh::Made(_) = answer {
+            self.count += 1;
+        }
+        Ok(answer)
+    }
+
+    /// Gives a variable a new slot, which is open.
+    fn new_slot(&mut self, root: u32, name: &[Part], kind: Kind) -> Result<Value, Stop>
+        requires { wanted_kind self.old.variables root name.now ≡ kind }
+        ensures exact { Gives result self.new (variables.made_slot self.old root name.now kind) }
+        ensures within { IfOk result (λ v. reach v ≤ unknown_count self.new) }
+        ensures counts { unknown_count self.old ≤ unknown_count self.new }
+    {
+        let slot = add_slot(&mut self.slots)?;
+        self.keep_made(root, name, Value::Unset(kind, slot))
+    }
+
+    /// Gives a variable a value that was made for it.
+    fn keep_made(&mut self, root: u32, name: &[Part], value: Value) -> Result<Value, Stop>
+        requires within { reach value ≤ unknown_count self.old }
+        requires fits { is_kind (wanted_kind self.old.variables root name.now) (kind_of value) ≡ true }
+        ensures exact { Gives result self.new (variables.read_anew self.old root name.now value) }
+        ensures within { IfOk result (λ v. reach v ≤ unknown_count self.new) }
+        ensures counts { unknown_count self.old ≤ unknown_count self.new }
+    {
+        let copy = value.copy(self.alloc)?;
+        match self.variables.store_made(root, name, copy)? {
+            Ok(()) => Ok(value),
+            Err(_) => unreachable!(),
         }
     }
 
-    /// Gives a variable another value. An unknown that it was has no name any more.
-    #[tactic(auto, using(crate::proofs::EventLemmas::events_unname))]
-    pub(crate) fn replace_variable(&mut self, root: u32, new: Variable)
-        requires { reach_of_variable new ≤ unknown_count self.old }
-        ensures { self.new ≡ variables.replaced_variable self.old root new }
-    {
-        if let Some(Variable::Unknown(serial)) = self.variables.get(root as usize) {
-            self.system.unname(*serial);
-        }
-        self.set_variable(root, new);
-    }
-
-    /// Assigns a number to a variable, or to an internal, for which it must be known: `WrongType`, `NotKnown`.
+    /// Declares the variables of a pattern, which lose their values: `BadDeclaration` below the name of a macro.
     ///
-    /// The unknown that the variable was has no name any more. A root or a number past the last is assigned nothing.
+    /// A symbol that is no tag becomes one. The unknowns that the variables were have no names any more.
+    #[tactic(auto, unfolding(crate::specs::Variables::declare))]
+    pub fn do_declare(&mut self, symbol: u32, name: &[Shape], kind: Kind) -> Result<(), Stop>
+        ensures exact { Gives result self.new (variables.declare symbol name.now kind self.old) }
+        ensures counts { unknown_count self.old ≤ unknown_count self.new }
+    {
+        let root = self.root_of(symbol)?;
+        self.declare_root(root, name, kind)
+    }
+
+    fn declare_root(&mut self, root: u32, name: &[Shape], kind: Kind) -> Result<(), Stop>
+        ensures exact { Gives result self.new (variables.declare_root name.now kind root self.old) }
+        ensures counts { unknown_count self.old ≤ unknown_count self.new }
+    {
+        let serials = self.variables.made(self.alloc, root, name, false)?;
+        match self.variables.declare(root, name, kind)? {
+            Ok(()) => {
+                self.give_up(serials.as_slice());
+                Ok(())
+            }
+            Err(_) => Err(Stop::Refused(SourceError::BadDeclaration)),
+        }
+    }
+
+    /// Takes the names of unknowns away.
+    fn give_up(&mut self, serials: &[u32])
+        ensures exact { self.new ≡ variables.nameless self.old serials.now }
+        ensures counts { unknown_count self.new ≡ unknown_count self.old }
+    {
+        unname_all(&mut self.system, serials);
+    }
+
+    /// Forgets all variables and declarations of a root; the unknowns that they were have no names any more.
+    #[tactic(auto, unfolding(crate::specs::Variables::without_root))]
+    pub(crate) fn forget_root(&mut self, root: u32) -> Result<(), NoMemory>
+        ensures exact { OnOk result (self.new ≡ variables.without_root root self.old) }
+        ensures counts { unknown_count self.new ≡ unknown_count self.old }
+    {
+        let serials = self.variables.made(self.alloc, root, &[], true)?;
+        self.variables.forget(root);
+        self.give_up(serials.as_slice());
+        Ok(())
+    }
+
+    /// Assigns a value to a variable, of whose type it must be, or a known number to an internal: `WrongType`, `NotKnown`.
+    ///
+    /// The unknowns that were made for the variable have no names any more. Past the internals nothing is assigned.
     #[tactic(auto, unfolding(crate::specs::Variables::assign))]
-    pub fn do_assign(&mut self, to: Target, value: &Value) -> Result<(), Stop>
+    pub fn do_assign(&mut self, to: &Target, value: &Value) -> Result<(), Stop>
         requires { reach value.now ≤ unknown_count self.old }
-        ensures exact { Gives result self.new (variables.assign to value.now self.old) }
+        ensures exact { Gives result self.new (variables.assign to.now value.now self.old) }
+        ensures counts { unknown_count self.old ≤ unknown_count self.new }
+    {
+        match to {
+            Target::Variable(root, name) => self.assign_variable(*root, name.as_slice(), value),
+            Target::Internal(k) => self.assign_internal(*k, value),
+        }
+    }
+
+    fn assign_internal(&mut self, k: u32, value: &Value) -> Result<(), Stop>
+        requires { reach value.now ≤ unknown_count self.old }
+        ensures exact { Gives result self.new (variables.assign_internal k value.now self.old) }
         ensures counts { unknown_count self.old ≤ unknown_count self.new }
     {
         let form = self.operand(b":=", value)?;
-        match to {
-            Target::Variable(root) => {
-                self.replace_variable(root, Variable::Assigned(form));
+        let value = self.known(b":=", &form)?;
+        table::set_internal(&mut self.symbols, k, value);
+        Ok(())
+    }
+
+    fn assign_variable(&mut self, root: u32, name: &[Part], value: &Value) -> Result<(), Stop>
+        requires { reach value.now ≤ unknown_count self.old }
+        ensures exact { Gives result self.new (variables.assign_variable root name.now value.now self.old) }
+        ensures counts { unknown_count self.old ≤ unknown_count self.new }
+    {
+        if !has_kind(value, self.wanted_kind(root, name)) {
+            return Err(Stop::wrong_type(self.alloc, b":="));
+        }
+        let value = self.current(value)?;
+        self.replace(root, name, value)
+    }
+
+    /// The value once more, a number brought up to date.
+    fn current(&self, value: &Value) -> Result<Value, Stop>
+        requires { reach value.now ≤ unknown_count self.now }
+        ensures exact { Gives result self.now (variables.current value.now self.now) }
+        ensures within { IfOk result (λ v. reach v ≤ unknown_count self.now) }
+        ensures kind { IfOk result (λ v. kind_of v ≡ kind_of value.now) }
+    {
+        match value {
+            Value::Numeric(form) => Ok(Value::Numeric(self.up_to_date(form)?)),
+            _ => Ok(value.copy(self.alloc)?),
+        }
+    }
+
+    /// Gives a variable another value. The unknowns that were made for it have no names any more.
+    fn replace(&mut self, root: u32, name: &[Part], value: Value) -> Result<(), Stop>
+        requires within { reach value ≤ unknown_count self.old }
+        requires fits { is_kind (wanted_kind self.old.variables root name.now) (kind_of value) ≡ true }
+        ensures exact { Gives result self.new (change (λ s. variables.replaced s root name.now value) self.old) }
+        ensures counts { unknown_count self.old ≤ unknown_count self.new }
+    {
+        let serials = self.variables.made_at(self.alloc, root, name)?;
+        match self.variables.store(root, name, value)? {
+            Ok(()) => {
+                self.give_up(serials.as_slice());
                 Ok(())
             }
-            Target::Internal(k) => {
-                let value = self.known(b":=", &form)?;
-                table::set_internal(&mut self.symbols, k, value);
-                Ok(())
-            }
+            Err(_) => unreachable!(),
         }
     }
 }
@@ -163,15 +298,33 @@ fn unknown_value(alloc: Global, serial: u32) -> Result<Value, NoMemory>
     Ok(Value::Numeric(Form::unknown(alloc, serial)?))
 }
 
-/// Adds a variable that was not read, and answers its root, where the numbers reach that far.
-fn add_unread(variables: &mut Vec<Variable>) -> Result<u32, NoMemory>
-    ensures root { IfOk result (λ root. root ≡ length variables.old.items) }
-    ensures added { OnOk result (variables.new.items ≡ variables.old.items ++ Variable.Unread ∷ []) }
-    ensures err { OnErr result (variables.new.items ≡ variables.old.items) }
+/// Adds an open slot, and answers its number, where the numbers reach that far.
+fn add_slot(slots: &mut Vec<Option<Value>>) -> Result<u32, NoMemory>
+    ensures slot { IfOk result (λ slot. slot ≡ length slots.old.items) }
+    ensures added { OnOk result (slots.new.items ≡ slots.old.items ++ None ∷ []) }
+    ensures err { OnErr result (slots.new.items ≡ slots.old.items) }
 {
-    let Ok(root) = u32::try_from(variables.len()) else {
+    let Ok(slot) = u32::try_from(slots.len()) else {
         return Err(NoMemory);
     };
-    variables.push(Variable::Unread)?;
-    Ok(root)
+    slots.push(None)?;
+    Ok(slot)
+}
+
+/// Takes the name of an unknown away; a number that is none of an unknown changes nothing.
+fn unname(system: &mut System, serial: u32)
+    ensures { system.new ≡ variables.without_name system.old serial }
+{
+    if system.has_unknown(serial) {
+        system.unname(serial);
+    }
+}
+
+/// Takes the names of unknowns away.
+fn unname_all(system: &mut System, serials: &[u32])
+    ensures { system.new ≡ variables.without_names system.old serials.now }
+{
+    'serials: for serial in serials {
+        unname(system, *serial);
+    }
 }

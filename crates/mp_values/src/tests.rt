@@ -63,7 +63,7 @@ fn items(rt: HostRuntime) -> Result<(), Fail> {
 
 #[test]
 fn words(rt: HostRuntime) -> Result<(), Fail> {
-    let names: [&[u8]; 24] = [
+    let names: [&[u8]; 30] = [
         b"+",
         b"-",
         b"*",
@@ -72,6 +72,9 @@ fn words(rt: HostRuntime) -> Result<(), Fail> {
         b";",
         b"=",
         b":=",
+        b"[",
+        b"]",
+        b"str",
         b"begingroup",
         b"endgroup",
         b"end",
@@ -88,6 +91,9 @@ fn words(rt: HostRuntime) -> Result<(), Fail> {
         b"scrollmode",
         b"nonstopmode",
         b"errorstopmode",
+        b"boolean",
+        b"numeric",
+        b"string",
     ];
     for (word, name) in Word::ALL.iter().zip(names.iter()) {
         assert!(rt; word.name() == *name);

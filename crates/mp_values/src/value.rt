@@ -1,6 +1,7 @@
 //! Values.
 
 ghost use Rattle.std.specs.Prelude.{◌≡◌, IfOk};
+ghost use Rattle.mp_values.specs.Words.{name_of_kind};
 
 use mp_forms::Form;
 use mp_scaled::{NoMemory, SharedSlice};
@@ -12,6 +13,19 @@ pub enum Kind {
     Boolean,
     Numeric,
     Text,
+}
+
+impl Kind {
+    /// The word of the language for the type.
+    pub fn name(self) -> &'static [u8]
+        ensures { result.now ≡ name_of_kind self }
+    {
+        match self {
+            Kind::Boolean => b"boolean",
+            Kind::Numeric => b"numeric",
+            Kind::Text => b"string",
+        }
+    }
 }
 
 /// A value.

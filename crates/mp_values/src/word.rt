@@ -3,6 +3,8 @@
 ghost use Rattle.std.specs.Prelude.{◌≡◌};
 ghost use Rattle.mp_values.specs.Words as words;
 
+use crate::Kind;
+
 /// A word that begins a statement.
 #[derive(Clone, Copy, Debug, PartialEq, Eq)]
 pub enum Command {
@@ -19,6 +21,8 @@ pub enum Command {
     Scrollmode,
     Nonstopmode,
     Errorstopmode,
+    /// Declares variables of that type.
+    Type(Kind),
 }
 
 /// A word of the language that is built.
@@ -32,6 +36,9 @@ pub enum Word {
     Semicolon,
     Equals,
     Assign,
+    LeftBracket,
+    RightBracket,
+    Str,
     Begingroup,
     Endgroup,
     End,
@@ -57,13 +64,14 @@ impl Command {
             Command::Scrollmode => b"scrollmode",
             Command::Nonstopmode => b"nonstopmode",
             Command::Errorstopmode => b"errorstopmode",
+            Command::Type(kind) => kind.name(),
         }
     }
 }
 
 impl Word {
     /// Each word once.
-    pub const ALL: [Word; 24] = [
+    pub const ALL: [Word; 30] = [
         Word::Plus,
         Word::Minus,
         Word::Times,
@@ -72,6 +80,9 @@ impl Word {
         Word::Semicolon,
         Word::Equals,
         Word::Assign,
+        Word::LeftBracket,
+        Word::RightBracket,
+        Word::Str,
         Word::Begingroup,
         Word::Endgroup,
         Word::End,
@@ -88,6 +99,9 @@ impl Word {
         Word::Command(Command::Scrollmode),
         Word::Command(Command::Nonstopmode),
         Word::Command(Command::Errorstopmode),
+        Word::Command(Command::Type(Kind::Boolean)),
+        Word::Command(Command::Type(Kind::Numeric)),
+        Word::Command(Command::Type(Kind::Text)),
     ];
 
     /// The symbol that means the word at the start of a run.
@@ -103,6 +117,9 @@ impl Word {
             Word::Semicolon => b";",
             Word::Equals => b"=",
             Word::Assign => b":=",
+            Word::LeftBracket => b"[",
+            Word::RightBracket => b"]",
+            Word::Str => b"str",
             Word::Begingroup => b"begingroup",
             Word::Endgroup => b"endgroup",
             Word::End => b"end",

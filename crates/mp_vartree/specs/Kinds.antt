@@ -23,6 +23,14 @@ abbrev pub is_kind : Kind → Option Kind → Bool
 is_kind wanted None = false
 is_kind wanted (Some k) = kind_eq k wanted
 
+-- two values are of one type
+abbrev pub kinds_agree : Option Kind → Option Kind → Bool
+kinds_agree None other = false
+kinds_agree (Some k) other = is_kind k other
+
+abbrev pub are_of_one_kind : Value → Value → Bool
+are_of_one_kind a b = kinds_agree (kind_of a) (kind_of b)
+
 -- the numbers of the unknowns in a value
 abbrev pub unknowns_in : Value → List ℕ
 unknowns_in (value.Numeric form) = map (λ term. term.serial) form.terms

@@ -22,8 +22,10 @@ mod tests;
 mod vars;
 
 pub use answers::{BadDeclaration, Found, WrongType};
+pub use entry::Variable;
+pub use kinds::{has_kind, have_one_kind};
 pub use laws::{one_pattern_matches, variables_are_a_map};
 pub use macros::{Items, Level, Macro, ParamKind, Params};
-pub use names::{Part, Shape};
+pub use names::{Part, Pattern, Shape, Suffix};
 pub use serials::Serials;
 pub use vars::Vars;

@@ -1,5 +1,7 @@
 //! The parts of names and of patterns.
 
+use mp_scaled::Listing;
+
 /// A part of a full name.
 #[derive(Clone, Copy, Debug, PartialEq, Eq, PartialOrd, Ord)]
 pub enum Part {
@@ -17,3 +19,9 @@ pub enum Shape {
     /// Any subscript.
     Any,
 }
+
+/// The parts of a name behind its tag.
+pub type Suffix = Listing<Part>;
+
+/// The parts of a pattern behind its tag.
+pub type Pattern = Listing<Shape>;

@@ -169,8 +169,9 @@ impl Vars {
         self.store_as(root, name, value, true)
     }
 
-    /// The variable of a full name, if it has a value.
-    fn variable_at(&self, root: u32, name: &[Part]) -> Option<&Variable>
+    /// The variable of a full name, if it has a value, whether or not a macro names a beginning of it. It takes no
+    /// memory.
+    pub fn variable_at(&self, root: u32, name: &[Part]) -> Option<&Variable>
         ensures { option_map (λ x. x.now) result ≡ variables.variable_at self.now root name.now }
     {
         match self.tags.get(&root) {

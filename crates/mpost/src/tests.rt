@@ -84,8 +84,8 @@ const TEXTS: [(&str, &str, u8); 50] = [
     ),
     (
         "show + -1, 1- +1, --1;\n",
-        ">> -1\n>> 0\na.mp:1: error 29 NotBuilt suffix\n",
-        1,
+        ">> -1\n>> 0\n>> --1\n",
+        0,
     ),
     (
         "show 1/2/3, 6/(2), -3/(2), 2(3)*4, 2+3*4;\n",
@@ -119,7 +119,7 @@ const TEXTS: [(&str, &str, u8); 50] = [
     ("x=x; show x+2y; end", "## redundant 0\n>> 2y+x\n", 0),
     ("show 30000y+30000y; end", ">> 60000y\n", 0),
     ("2x+y=3; show x; end", ">> -0.5y+1.5\n", 0),
-    ("show x y;\n", "a.mp:1: error 29 NotBuilt suffix\n", 1),
+    ("show x y;\n", ">> x.y\n", 0),
     (
         "a=(x):=3;\n",
         "a.mp:1: error 7 Unexpected \";\" \":=\"\n",
@@ -172,8 +172,8 @@ const TEXTS: [(&str, &str, u8); 50] = [
     ),
     (
         "newinternal a,b; a:=3; show a*2,b; show x a;\n",
-        ">> 6\n>> 0\na.mp:1: error 29 NotBuilt suffix\n",
-        1,
+        ">> 6\n>> 0\n>> x.a\n",
+        0,
     ),
     (
         "let a=outer; show a;\n",
@@ -232,8 +232,108 @@ fn texts_give_their_lines(rt: HostRuntime) -> Result<(), Fail> {
     expect_texts(&rt, rt.alloc(), &TEXTS)
 }
 
+/// The same of names and types.
+const NAMES: [(&str, &str, u8); 27] = [
+    (
+        "numeric a[]b; a3b=4; show a[1+2]b, str a[3]b; a3b:=5; show a3b; string a; a:=\"q\"; show a, a3b; end",
+        ">> 4\n>> \"a3b\"\n>> 5\n>> \"q\"\n>> 5\n",
+        0,
+    ),
+    (
+        "x3:=4; i=2; show x[i+1], x[3.0], x[i]i, x.linecap, x[-1]2;\n",
+        ">> 4\n>> 4\n>> x2i\n>> x.linecap\n>> x[-1][2]\n",
+        0,
+    ),
+    (
+        "show str z left, str a[1+2]b, str x[-1][2], str;\n",
+        ">> \"z.left\"\n>> \"a3b\"\n>> \"x[-1][2]\"\n>> \"\"\n",
+        0,
+    ),
+    ("x1:=y.a:=3; show x1, y.a;\n", ">> 3\n>> 3\n", 0),
+    ("show x[y];\n", "a.mp:1: error 19 BadSubscript\n", 1),
+    ("show x[\"a\"];\n", "a.mp:1: error 19 BadSubscript\n", 1),
+    (
+        "show x[1,2];\n",
+        "a.mp:1: error 7 Unexpected \"]\" \",\"\n",
+        1,
+    ),
+    (
+        "show 2[3];\n",
+        ">> 2\na.mp:1: error 7 Unexpected \";\" \"[\"\n",
+        1,
+    ),
+    ("show 2str x;\n", "a.mp:1: error 8 WrongType *\n", 1),
+    ("numeric a3;\n", "a.mp:1: error 20 BadDeclaration\n", 1),
+    ("numeric a[1];\n", "a.mp:1: error 20 BadDeclaration\n", 1),
+    ("numeric a[", "a.mp:1: error 20 BadDeclaration\n", 1),
+    (
+        "numeric 3;\n",
+        "a.mp:1: error 7 Unexpected \"symbol\" \"number\"\n",
+        1,
+    ),
+    (
+        "numeric show.show;\n",
+        "a.mp:1: error 7 Unexpected \";\" \"show\"\n",
+        1,
+    ),
+    (
+        "numeric path, x y; path3=7; show path3, x y;\n",
+        ">> 7\n>> x.y\n",
+        0,
+    ),
+    (
+        "string s, t; t:=s; show t; s=\"now\"; show s, t; s=\"now\"; s=\"then\";\n",
+        ">> unknown string\n>> \"now\"\n>> \"now\"\n## redundant 0\na.mp:1: error 13 Inconsistent 0\n",
+        1,
+    ),
+    (
+        "string s, t[]; t1=s=\"a\"; show t1, s; s; s:=\"b\"; message s;\n",
+        ">> \"a\"\n>> \"a\"\nb\n",
+        0,
+    ),
+    ("string s; s=1;\n", "a.mp:1: error 8 WrongType =\n", 1),
+    ("string s; s:=1;\n", "a.mp:1: error 8 WrongType :=\n", 1),
+    ("x:=\"a\";\n", "a.mp:1: error 8 WrongType :=\n", 1),
+    ("string s; s=s;\n", "a.mp:1: error 9 NotKnown =\n", 1),
+    (
+        "string s; boolean b; s=b;\n",
+        "a.mp:1: error 8 WrongType =\n",
+        1,
+    ),
+    (
+        "string s; message s;\n",
+        "a.mp:1: error 9 NotKnown message\n",
+        1,
+    ),
+    (
+        "boolean b; show b; b;\n",
+        ">> unknown boolean\na.mp:1: error 7 Unexpected \"=\" \";\"\n",
+        1,
+    ),
+    (
+        "y:=a1+a2; numeric a[]; show y, a1;\n",
+        ">> ?2+?1\n>> a1\n",
+        0,
+    ),
+    (
+        "x=1; x1=2; numeric x; show x1; x:=3; show x; numeric x[]; show x;\n",
+        ">> 2\n>> 3\n>> 3\n",
+        0,
+    ),
+    (
+        "begingroup save x; x1=y; z:=x2+1; string x; endgroup; show y, z, x1, x;\n",
+        ">> ?1\n>> ?3+1\n>> x1\n>> x\n",
+        0,
+    ),
+];
+
+#[test]
+fn names_and_types_give_their_lines(rt: HostRuntime) -> Result<(), Fail> {
+    expect_texts(&rt, rt.alloc(), &NAMES)
+}
+
 /// A source text, and how many items are taken of it.
-const STEPS: [(&str, u64); 9] = [
+const STEPS: [(&str, u64); 11] = [
     ("show 1/3+2;end", 8),
     ("", 1),
     ("\n", 2),
@@ -243,6 +343,8 @@ const STEPS: [(&str, u64); 9] = [
     ("x+y=3; x-y=1; show x,y; end", 18),
     ("let a=show; a 3/(1);end", 13),
     ("show 1/(2);end", 8),
+    ("a1=2;show a[1];end", 12),
+    ("numeric a[]b;end", 7),
 ];
 
 #[test]
@@ -254,18 +356,54 @@ fn items_are_counted(rt: HostRuntime) -> Result<(), Fail> {
     Ok(())
 }
 
+/// A piece so many times, between two others.
+fn repeated(
+    alloc: Global,
+    first: &str,
+    piece: &str,
+    times: u32,
+    last: &str,
+) -> Result<Vec<u8>, AllocError> {
+    let mut text = Vec::from_slice(alloc, first.as_bytes())?;
+    for _ in 0..times {
+        text.extend_from_slice(piece.as_bytes())?;
+    }
+    text.extend_from_slice(last.as_bytes())?;
+    Ok(text)
+}
+
 /// Parentheses, so many inside one another.
 fn nested(alloc: Global, depth: u32) -> Result<Vec<u8>, AllocError> {
-    let mut text = Vec::from_slice(alloc, b"show ")?;
-    for _ in 0..depth {
-        text.push(b'(')?;
-    }
-    text.push(b'1')?;
+    let mut text = repeated(alloc, "show ", "(", depth, "1")?;
     for _ in 0..depth {
         text.push(b')')?;
     }
     text.extend_from_slice(b";\n")?;
     Ok(text)
+}
+
+#[test]
+fn names_have_fifty_parts(rt: HostRuntime) -> Result<(), Fail> {
+    let alloc = rt.alloc();
+    let rows: [(&str, &str, u32, &str, &str); 5] = [
+        ("show a", ".b", 51, ";\n", "a.mp:1: error 28 Limit Suffix 50\n"),
+        ("show str a", ".b", 50, ";\n", "a.mp:1: error 28 Limit Suffix 50\n"),
+        ("numeric a", "[]", 51, ";\n", "a.mp:1: error 28 Limit Suffix 50\n"),
+        ("a", "[1]", 50, "=7; show 2;\n", ">> 2\n"),
+        (
+            "b=-32767.99998; show str ",
+            "a",
+            65472,
+            "[b][b][b][b][b][b][b]",
+            "a.mp:1: error 28 Limit Text 65536\n",
+        ),
+    ];
+    for (first, piece, times, last, wanted) in rows {
+        let text = repeated(alloc, first, piece, times, last)?;
+        let left = run_with(alloc, "--bare a.mp", text.as_slice(), &[], &[])?;
+        assert_eq!(rt; left.sink.as_slice(), wanted.as_bytes(), "{first}");
+    }
+    Ok(())
 }
 
 #[test]

@@ -16,7 +16,7 @@ returns-in_err-branch-clause-err c =
     let p = err_from_is_err_and c.from_residual-in_err-branch.result c.from_residual-in_err-branch.ensures.1 in
     let refused = prepared_err c.self.inside.system (reduce_of c.self.inside.system.states c.args.form.now) _ _ c.in_err-branch.was c.in_ok-ready.ensures.exact in
     let state : State =
-    record { symbols = c.self.inside.symbols; variables = c.self.inside.variables.items; unknowns = c.self.inside.system; lines = c.self.inside.lines } in
+    record { symbols = c.self.inside.symbols; variables = c.self.inside.variables; slots = c.self.inside.slots.items; unknowns = c.self.inside.system; lines = c.self.inside.lines } in
     rw (p.1, ← c.self.view_is) (λ _. ap (λ r. in_state (or_refused r) state) refused ∙ ap (λ stop. Err (stop, state)) (sym p.2))
 
 pub returns-clause-within : goal.returns-clause-within

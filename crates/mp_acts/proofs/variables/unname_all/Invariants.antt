@@ -1,0 +1,6 @@
+use Rattle.std.proofs.Common.{◌≡◌, drop}
+use Rattle.mp_acts.specs.Variables.{without_names}
+use Rattle.mp_acts.proofs.variables.unname_all.Given as goal
+
+abbrev pub invariant-serials : goal.invariant-serials
+invariant-serials l = without_names l.system (drop l.serial-index l.serials) ≡ without_names l.fn.system l.serials
