@@ -1,12 +1,15 @@
 -- On the meaning: each rule is its case.
 use Rattle.std.proofs.Common.{◌≡◌, ℕ, ℤ, List}
 use Rattle.mp_values.specs.declared.meaning.Delimiters.{Delimiters}
+use Rattle.mp_values.specs.declared.value.Kind.{Kind}
 use Rattle.mp_values.specs.declared.value.Value.{Value}
 use Rattle.mp_values.specs.declared.word.Command.{Command}
+use Rattle.mp_vartree.specs.declared.names.Part.{Part as NamePart}
+use Rattle.mp_vartree.specs.declared.names.Shape.{Shape}
 use Rattle.mp_eval.specs.Machine.{Machine}
 use Rattle.mp_eval.specs.declared.front.Front.{Front}
 use Rattle.mp_eval.specs.declared.side.Side.{Side}
-use Rattle.mp_eval.specs.Rules.{case, NextFront, next_front, NextRaw, next_raw, Number, number, NumberThen, number_then, Factor, factor, Variable, variable, Parenthesis, parenthesis, Group, group, PrimaryInside, primary_inside, Primary, primary, Leading, leading, Secondary, secondary, SecondaryRest, secondary_rest, Tertiary, tertiary, TertiaryRest, tertiary_rest, Expression, expression, Part, part, Chain, chain, ChainRest, chain_rest, ShowList, show_list, SaveList, save_list, NewinternalList, newinternal_list, Interim, interim_value, LetSymbol, let_equal, DelimiterPair, delimiter_pair, Spoken, spoken, CommandOf, command_of, Statement, statement, GroupStatements, group_statements, Statements, statements}
+use Rattle.mp_eval.specs.Rules.{case, NextFront, next_front, NextRaw, next_raw, Number, number, NumberThen, number_then, Factor, factor, Variable, variable, Suffix, suffix, Parenthesis, parenthesis, Group, group, PrimaryInside, primary_inside, Primary, primary, Leading, leading, Secondary, secondary, SecondaryRest, secondary_rest, Tertiary, tertiary, TertiaryRest, tertiary_rest, Expression, expression, Part, part, Chain, chain, ChainRest, chain_rest, ShowList, show_list, SaveList, save_list, NewinternalList, newinternal_list, DeclaredName, declared_name, TypeList, type_list, Interim, interim_value, LetSymbol, let_equal, DelimiterPair, delimiter_pair, Spoken, spoken, CommandOf, command_of, Statement, statement, GroupStatements, group_statements, Statements, statements}
 use Rattle.mp_eval.specs.Meaning.{the}
 use Rattle.mp_eval.proofs.Enough.{the_is}
 
@@ -33,6 +36,10 @@ factor_is v next s = the_is (Factor v next) s
 pub variable_is : (symbol : ℕ) (s : Machine) → the (Variable symbol) s ≡ variable the symbol s
 unfolding case
 variable_is symbol s = the_is (Variable symbol) s
+
+pub suffix_is : (parts : List NamePart) (next : Front) (s : Machine) → the (Suffix parts next) s ≡ suffix the parts next s
+unfolding case
+suffix_is parts next s = the_is (Suffix parts next) s
 
 pub parenthesis_is : (pair : Delimiters) (s : Machine) → the (Parenthesis pair) s ≡ parenthesis the pair s
 unfolding case
@@ -97,6 +104,14 @@ save_list_is s = the_is SaveList s
 pub newinternal_list_is : (s : Machine) → the NewinternalList s ≡ newinternal_list the s
 unfolding case
 newinternal_list_is s = the_is NewinternalList s
+
+pub declared_name_is : (parts : List Shape) (next : Front) (s : Machine) → the (DeclaredName parts next) s ≡ declared_name the parts next s
+unfolding case
+declared_name_is parts next s = the_is (DeclaredName parts next) s
+
+pub type_list_is : (kind : Kind) (s : Machine) → the (TypeList kind) s ≡ type_list the kind s
+unfolding case
+type_list_is kind s = the_is (TypeList kind) s
 
 pub interim_value_is : (s : Machine) → the Interim s ≡ interim_value the s
 unfolding case

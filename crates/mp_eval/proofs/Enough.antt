@@ -1,6 +1,6 @@
 -- On the meaning: how far each rule goes, that none ends by want of memory, and that more rules inside one
 -- another than enough change nothing.
-use Rattle.std.proofs.Common.{◌≡◌, ◌<◌, ◌≤◌, ◌+◌, ◌*◌, ℕ, ℤ, List, [], ◌∷◌, zero, suc, refl, arith, Option, Some, None, Ok, Err, Bool, true, false}
+use Rattle.std.proofs.Common.{◌≡◌, ◌<◌, ◌≤◌, ◌+◌, ◌*◌, ℕ, ℤ, List, [], ◌∷◌, ◌++◌, length, zero, suc, refl, arith, Option, Some, None, Ok, Err, Bool, true, false}
 use Rattle.std.specs.Prelude.{codes, nat_lt, if◌then◌else◌}
 use Rattle.std.proofs.lemmas.Bool.Decides.{nat_tests}
 use Rattle.mp_report.specs.declared.error.Cap.TheVariants as cap
@@ -13,21 +13,28 @@ use Rattle.mp_values.specs.declared.meaning.Delimiters.{Delimiters}
 use Rattle.mp_values.specs.declared.meaning.Meaning.{Meaning}
 use Rattle.mp_values.specs.declared.meaning.Meaning.TheVariants as meaning
 use Rattle.mp_values.specs.declared.stop.Stop.TheVariants.{Refused}
+use Rattle.mp_values.specs.declared.value.Kind.{Kind}
+use Rattle.mp_values.specs.declared.value.Kind.TheVariants as kind
 use Rattle.mp_values.specs.declared.value.Value.{Value}
 use Rattle.mp_values.specs.declared.value.Value.TheVariants as value
 use Rattle.mp_values.specs.declared.word.Command.{Command}
 use Rattle.mp_values.specs.declared.word.Command.TheVariants as command
 use Rattle.mp_values.specs.declared.word.Word.{Word}
 use Rattle.mp_values.specs.declared.word.Word.TheVariants as word
+use Rattle.mp_vartree.specs.declared.names.Part.{Part as NamePart}
+use Rattle.mp_vartree.specs.declared.names.Part.TheVariants as name_part
+use Rattle.mp_vartree.specs.declared.names.Shape.{Shape}
+use Rattle.mp_vartree.specs.declared.names.Shape.TheVariants as shape
 use Rattle.mp_acts.specs.State.{symbol_name, symbol_meaning, internal_value}
 use Rattle.mp_acts.specs.Arithmetic.{known_number, sum, difference, positive, negated, product, quotient, fraction}
-use Rattle.mp_acts.specs.Variables.{root_of, read}
+use Rattle.mp_acts.specs.Suffixes.{suffix_string, subscript}
+use Rattle.mp_acts.specs.Variables.{root_of, read, declare}
 use Rattle.mp_acts.specs.Lines.{show}
 use Rattle.mp_acts.specs.Groups.{open_group, end_group, save, let_symbol, delimiters, new_internal, interim}
-use Rattle.mp_acts.specs.declared.variable.Target.{Target}
-use Rattle.mp_acts.specs.declared.variable.Target.TheVariants as target
+use Rattle.mp_acts.specs.declared.target.Target.{Target}
+use Rattle.mp_acts.specs.declared.target.Target.TheVariants as target
 use Rattle.mp_eval.specs.Machine.{Machine, weight, held_weight, left}
-use Rattle.mp_eval.specs.Fronts.{front_of_meaning, begins_suffix, refused_front, refused_raw}
+use Rattle.mp_eval.specs.Fronts.{front_of_meaning, refused_front, refused_raw}
 use Rattle.mp_eval.specs.Steps.{take_item, take_from, enter, leave, hold}
 use Rattle.mp_eval.specs.Sides.{settle}
 use Rattle.mp_eval.specs.declared.front.Front.{Front}
@@ -36,10 +43,10 @@ use Rattle.mp_eval.specs.declared.front.Raw.{Raw}
 use Rattle.mp_eval.specs.declared.front.Raw.TheVariants as raw
 use Rattle.mp_eval.specs.declared.side.Side.{Side}
 use Rattle.mp_eval.specs.declared.side.Side.TheVariants as side
-use Rattle.mp_eval.specs.Rules.{Rules, front_of, held_or_taken, next_front, raw_of, next_raw, symbol_in, raw_symbol, times, factor, number_over, number_then, number, without_suffix, variable, internal, are_pair, closed_by, closed, parenthesis, group, plus_primary, minus_primary, primary_word, primary_inside, primary, leading_variable, leading_internal, leading_inside, leading, secondary, multiplied, divided, secondary_rest, tertiary, added, subtracted, tertiary_rest, part_from, part, chain_on, lone_or_vacuous, chain_end, chain_rest, chain, show_more, show_list, save_more, save_list, newinternal_more, newinternal_list, is_equals, equals_by, equals_in, raw_equals, let_equal, delimiter_pair, internal_in, assign_in, internal_name, assign_sign, interim_value, spoken_by, spoken, command_of, statement_word, statement, may_stand_alone, group_more, group_end, group_statements, statement_end, statements, case, NextFront, NextRaw, Number, NumberThen, Factor, Variable, Parenthesis, Group, PrimaryInside, Primary, Leading, Secondary, SecondaryRest, Tertiary, TertiaryRest, Expression, Part, Chain, ChainRest, ShowList, SaveList, NewinternalList, Interim, LetSymbol, DelimiterPair, Spoken, CommandOf, Statement, GroupStatements, Statements, What}
+use Rattle.mp_eval.specs.Rules.{Rules, front_of, held_or_taken, next_front, raw_of, next_raw, symbol_in, raw_symbol, times, factor, number_over, number_then, number, room_by, room_for_part, part_on, bracket_end, bracketed, suffix, variable, internal, are_pair, closed_by, closed, parenthesis, group, plus_primary, minus_primary, str_primary, primary_word, primary_inside, primary, leading_variable, leading_internal, leading_inside, leading, secondary, multiplied, divided, secondary_rest, tertiary, added, subtracted, tertiary_rest, part_from, part, chain_on, lone_or_vacuous, chain_end, chain_rest, chain, show_more, show_list, save_more, save_list, newinternal_more, newinternal_list, shape_on, empty_bracket, declared_name, type_more, type_list, is_equals, equals_by, equals_in, raw_equals, let_equal, delimiter_pair, internal_in, assign_in, internal_name, assign_sign, interim_value, spoken_by, spoken, command_of, statement_word, statement, may_stand_alone, group_more, group_end, group_statements, statement_end, statements, case, NextFront, NextRaw, Number, NumberThen, Factor, Variable, Suffix, Parenthesis, Group, PrimaryInside, Primary, Leading, Secondary, SecondaryRest, Tertiary, TertiaryRest, Expression, Part, Chain, ChainRest, ShowList, SaveList, NewinternalList, DeclaredName, TypeList, Interim, LetSymbol, DelimiterPair, Spoken, CommandOf, Statement, GroupStatements, Statements, What}
 use Rattle.mp_eval.specs.Meaning.{in_hand, measure, rule, the, behind, cost}
 use Rattle.mp_eval.proofs.Agreement.{After, Agree, AsMany, agree-then, weaker, stopped, given, acted, lifted}
-use Rattle.mp_acts.proofs.Ends.{in_state-ends, sum-ends, difference-ends, positive-ends, negated-ends, product-ends, quotient-ends, fraction-ends, root_of-ends, read-ends, show-ends, interim-ends}
+use Rattle.mp_acts.proofs.Ends.{in_state-ends, sum-ends, difference-ends, positive-ends, negated-ends, product-ends, quotient-ends, fraction-ends, suffix_string-ends, subscript-ends, root_of-ends, read-ends, declare-ends, show-ends, interim-ends}
 use Rattle.mp_eval.proofs.Acting.{spoken_by-ends, settle-ends}
 
 -- so many fronts may still be got at most, with those in hand
@@ -142,6 +149,7 @@ times-agrees r1 r2 v x b m t p c h =
 
 word_factor-agrees : (r1 r2 : Rules) (v : Value) (symbol : ℕ) (w : Word) (b m : ℕ) (t : Machine) → left t + 1 ≤ b → 16 * b + 2 < m → Below r1 r2 m → Agree (factor r1 v (front.Word symbol w) t) (factor r2 v (front.Word symbol w) t) (λ answer. Fewer b (weight answer.1))
 word_factor-agrees r1 r2 v symbol word.Begingroup b m t p c h = times-agrees r1 r2 v (front.Word symbol word.Begingroup) b m t p c h
+word_factor-agrees r1 r2 v symbol word.Str b m t p c h = times-agrees r1 r2 v (front.Word symbol word.Str) b m t p c h
 word_factor-agrees r1 r2 v symbol w b m t p c h = given (v, front.Word symbol w) t (λ answer. Fewer b (weight answer.1)) (record { went = p })
 
 factor-agrees : (r1 r2 : Rules) (v : Value) (x : Front) (b m : ℕ) (t : Machine) → left t + weight x ≤ b → 16 * b + 2 < m → Below r1 r2 m → Agree (factor r1 v x t) (factor r2 v x t) (λ answer. Fewer b (weight answer.1))
@@ -174,17 +182,51 @@ number-agrees r1 r2 n s h =
     agree-then (h.at NextFront s (omega arith)) (λ x t p.
     weaker (h.at (NumberThen n x) t (omega arith)) (λ answer u q. record { went = omega arith }))
 
-suffix-agrees : (b : Bool) (s : Machine) → Agree (without_suffix b s) (without_suffix b s) (λ x. AsMany s)
-suffix-agrees true s = stopped (not_built (codes "suffix")) s (λ x. AsMany s) (λ e. cc)
-suffix-agrees false s = given tt s (λ x. AsMany s) (record { went = refl })
+room_by-agrees : (b : Bool) (s : Machine) → Agree (room_by b s) (room_by b s) (λ x. AsMany s)
+room_by-agrees true s = given tt s (λ x. AsMany s) (record { went = refl })
+room_by-agrees false s = stopped (Refused (error.Limit cap.Suffix 50)) s (λ x. AsMany s) (λ e. cc)
+
+room-agrees : (count : ℕ) (s : Machine) → Agree (room_for_part count s) (room_for_part count s) (λ x. AsMany s)
+room-agrees count s = room_by-agrees (nat_lt count 50) s
+
+-- where the front of the part was used, so many fronts are left
+part_on-agrees : (r1 r2 : Rules) (parts : List NamePart) (p : NamePart) (b m : ℕ) (s : Machine) → left s ≤ b → 16 * b + 1 < m → Below r1 r2 m → Agree (part_on r1 parts p s) (part_on r2 parts p s) (λ answer. Fewer b (weight answer.1))
+part_on-agrees r1 r2 parts p b m s q c h =
+    agree-then (room-agrees (length parts) s) (λ room t e.
+    agree-then (h.at NextFront t (omega arith)) (λ next u a.
+    weaker (h.at (Suffix (parts ++ p ∷ []) next) u (omega arith)) (λ answer w d. record { went = omega arith })))
+
+bracket_end-agrees : (x : Front) (s : Machine) → Agree (bracket_end x s) (bracket_end x s) (λ y. AsMany s)
+bracket_end-agrees (front.Word symbol word.RightBracket) s = given tt s (λ y. AsMany s) (record { went = refl })
+bracket_end-agrees x s = stopped (refused_front (codes "]") x s) s (λ y. AsMany s) (λ e. cc)
+
+bracketed-agrees : (r1 r2 : Rules) (b m : ℕ) (s : Machine) → left s ≤ b → 16 * b + 7 < m → Below r1 r2 m → Agree (bracketed r1 s) (bracketed r2 s) (λ value. Fewer b 0)
+bracketed-agrees r1 r2 b m s p c h =
+    agree-then (h.at NextFront s (omega arith)) (λ first t q.
+    agree-then (h.at (Expression first) t (omega arith)) (λ e u a.
+    agree-then (bracket_end-agrees e.1 u) (λ closed w d.
+    weaker (acted (subscript e.0 w.acts) w (subscript-ends e.0 w.acts)) (λ value y f. record { went = omega arith }))))
+
+suffix_word-agrees : (r1 r2 : Rules) (parts : List NamePart) (symbol : ℕ) (w : Word) (m : ℕ) (s : Machine) → 16 * (left s + 1) + 1 ≤ m → Below r1 r2 m → Agree (suffix r1 parts (front.Word symbol w) s) (suffix r2 parts (front.Word symbol w) s) (λ answer. Fewer (left s + 1) (weight answer.1))
+suffix_word-agrees r1 r2 parts symbol word.LeftBracket m s c h =
+    agree-then (bracketed-agrees r1 r2 (left s) m s (omega arith) (omega arith) h) (λ value t p.
+    weaker (part_on-agrees r1 r2 parts (name_part.Sub value) (left s) m t (omega arith) (omega arith) h) (λ answer u q. record { went = omega arith }))
+suffix_word-agrees r1 r2 parts symbol w m s c h = given (parts, front.Word symbol w) s (λ answer. Fewer (left s + 1) (weight answer.1)) (record { went = omega arith })
+
+suffix-agrees : (r1 r2 : Rules) (parts : List NamePart) (x : Front) (s : Machine) → Below r1 r2 (measure (Suffix parts x) s) → Agree (suffix r1 parts x s) (suffix r2 parts x s) (λ answer. Fewer (left s + weight x) (weight answer.1))
+suffix-agrees r1 r2 parts (front.Tag symbol) s h = weaker (part_on-agrees r1 r2 parts (name_part.Sym symbol) (left s) _ s (omega arith) (omega arith) h) (λ answer t p. record { went = omega arith })
+suffix-agrees r1 r2 parts (front.Internal symbol k) s h = weaker (part_on-agrees r1 r2 parts (name_part.Sym symbol) (left s) _ s (omega arith) (omega arith) h) (λ answer t p. record { went = omega arith })
+suffix-agrees r1 r2 parts (front.Number n) s h = weaker (part_on-agrees r1 r2 parts (name_part.Sub n) (left s) _ s (omega arith) (omega arith) h) (λ answer t p. record { went = omega arith })
+suffix-agrees r1 r2 parts (front.Word symbol w) s h = suffix_word-agrees r1 r2 parts symbol w _ s (omega arith) h
+suffix-agrees r1 r2 parts x s h = given (parts, x) s (λ answer. Fewer (left s + weight x) (weight answer.1)) (record { went = omega arith })
 
 variable-agrees : (r1 r2 : Rules) (symbol : ℕ) (s : Machine) → Below r1 r2 (measure (Variable symbol) s) → Agree (variable r1 symbol s) (variable r2 symbol s) (λ answer. Fewer (left s + 0) (weight answer.1))
 variable-agrees r1 r2 symbol s h =
     agree-then (acted (root_of symbol s.acts) s (root_of-ends symbol s.acts)) (λ root t p.
     agree-then (h.at NextFront t (omega arith)) (λ next u q.
-    agree-then (suffix-agrees (begins_suffix next) u) (λ plain w e.
-    agree-then (acted (read symbol root w.acts) w (read-ends symbol root w.acts)) (λ v y a.
-    given (v, next) y (λ answer. Fewer (left s + 0) (weight answer.1)) (record { went = omega arith })))))
+    agree-then (h.at (Suffix [] next) u (omega arith)) (λ name w e.
+    agree-then (acted (read symbol root name.0 w.acts) w (read-ends symbol root name.0 w.acts)) (λ v y a.
+    given (v, name.1) y (λ answer. Fewer (left s + 0) (weight answer.1)) (record { went = omega arith })))))
 
 internal-agrees : (r1 r2 : Rules) (k : ℕ) (b m : ℕ) (s : Machine) → left s ≤ b → 16 * b < m → Below r1 r2 m → Agree (internal r1 k s) (internal r2 k s) (λ answer. Fewer b (weight answer.1))
 internal-agrees r1 r2 k b m s p c h =
@@ -230,11 +272,19 @@ minus-agrees r1 r2 b m s p c h =
     agree-then (acted (negated right.0 u.acts) u (negated-ends right.0 u.acts)) (λ v w e.
     given (v, right.1) w (λ answer. Fewer b (weight answer.1)) (record { went = omega arith }))))
 
+str-agrees : (r1 r2 : Rules) (b m : ℕ) (s : Machine) → left s ≤ b → 16 * b + 1 < m → Below r1 r2 m → Agree (str_primary r1 s) (str_primary r2 s) (λ answer. Fewer b (weight answer.1))
+str-agrees r1 r2 b m s p c h =
+    agree-then (h.at NextFront s (omega arith)) (λ first t q.
+    agree-then (h.at (Suffix [] first) t (omega arith)) (λ name u a.
+    agree-then (acted (suffix_string name.0 u.acts) u (suffix_string-ends name.0 u.acts)) (λ text w e.
+    given (text, name.1) w (λ answer. Fewer b (weight answer.1)) (record { went = omega arith }))))
+
 -- where the word was used, so many fronts are left
 primary_word-agrees : (r1 r2 : Rules) (symbol : ℕ) (w : Word) (m : ℕ) (s : Machine) → 16 * (left s + 1) ≤ m → Below r1 r2 m → Agree (primary_word r1 symbol w s) (primary_word r2 symbol w s) (λ answer. Fewer (left s + 1) (weight answer.1))
 primary_word-agrees r1 r2 symbol word.Plus m s c h = weaker (plus-agrees r1 r2 (left s) m s (omega arith) (omega arith) h) (λ answer t p. record { went = omega arith })
 primary_word-agrees r1 r2 symbol word.Minus m s c h = weaker (minus-agrees r1 r2 (left s) m s (omega arith) (omega arith) h) (λ answer t p. record { went = omega arith })
 primary_word-agrees r1 r2 symbol word.Begingroup m s c h = weaker (h.at Group s (omega arith)) (λ answer t p. record { went = omega arith })
+primary_word-agrees r1 r2 symbol word.Str m s c h = weaker (str-agrees r1 r2 (left s) m s (omega arith) (omega arith) h) (λ answer t p. record { went = omega arith })
 primary_word-agrees r1 r2 symbol w m s c h = stopped (refused_front (codes "primary") (front.Word symbol w) s) s (λ answer. Fewer (left s + 1) (weight answer.1)) (λ e. cc)
 
 primary_inside-agrees : (r1 r2 : Rules) (x : Front) (s : Machine) → Below r1 r2 (measure (PrimaryInside x) s) → Agree (primary_inside r1 x s) (primary_inside r2 x s) (λ answer. Fewer (left s + weight x) (weight answer.1))
@@ -255,35 +305,35 @@ primary-agrees r1 r2 x s h =
     agree-then (h.at (PrimaryInside x) t (omega arith)) (λ answer u q.
     given answer (leave u) (λ answer. Fewer (left s + weight x) (weight answer.1)) (record { went = omega arith })))
 
-variable_word-agrees : (r1 r2 : Rules) (symbol root k : ℕ) (w : Word) (t : Machine) → Agree (leading_variable r1 symbol root (front.Word k w) t) (leading_variable r2 symbol root (front.Word k w) t) (λ answer. Fewer (left t + 1) (weight answer.1))
-variable_word-agrees r1 r2 symbol root k word.Assign t = given (side.Target (target.Variable root), front.Word k word.Assign) t (λ answer. Fewer (left t + 1) (weight answer.1)) (record { went = omega arith })
-variable_word-agrees r1 r2 symbol root k w t =
-    agree-then (acted (read symbol root t.acts) t (read-ends symbol root t.acts)) (λ v u e.
+variable_word-agrees : (symbol root : ℕ) (parts : List NamePart) (k : ℕ) (w : Word) (t : Machine) → Agree (leading_variable symbol root parts (front.Word k w) t) (leading_variable symbol root parts (front.Word k w) t) (λ answer. Fewer (left t + 1) (weight answer.1))
+variable_word-agrees symbol root parts k word.Assign t = given (side.Target (target.Variable root parts), front.Word k word.Assign) t (λ answer. Fewer (left t + 1) (weight answer.1)) (record { went = omega arith })
+variable_word-agrees symbol root parts k w t =
+    agree-then (acted (read symbol root parts t.acts) t (read-ends symbol root parts t.acts)) (λ v u e.
     given (side.Value v, front.Word k w) u (λ answer. Fewer (left t + 1) (weight answer.1)) (record { went = omega arith }))
 
-leading_variable-agrees : (r1 r2 : Rules) (symbol root : ℕ) (x : Front) (t : Machine) → Agree (leading_variable r1 symbol root x t) (leading_variable r2 symbol root x t) (λ answer. Fewer (left t + weight x) (weight answer.1))
-leading_variable-agrees r1 r2 symbol root (front.Word k w) t = variable_word-agrees r1 r2 symbol root k w t
-leading_variable-agrees r1 r2 symbol root x t =
-    agree-then (suffix-agrees (begins_suffix x) t) (λ plain u p.
-    agree-then (acted (read symbol root u.acts) u (read-ends symbol root u.acts)) (λ v w e.
-    given (side.Value v, x) w (λ answer. Fewer (left t + weight x) (weight answer.1)) (record { went = omega arith })))
+leading_variable-agrees : (symbol root : ℕ) (parts : List NamePart) (x : Front) (t : Machine) → Agree (leading_variable symbol root parts x t) (leading_variable symbol root parts x t) (λ answer. Fewer (left t + weight x) (weight answer.1))
+leading_variable-agrees symbol root parts (front.Word k w) t = variable_word-agrees symbol root parts k w t
+leading_variable-agrees symbol root parts x t =
+    agree-then (acted (read symbol root parts t.acts) t (read-ends symbol root parts t.acts)) (λ v u e.
+    given (side.Value v, x) u (λ answer. Fewer (left t + weight x) (weight answer.1)) (record { went = omega arith }))
 
-internal_word-agrees : (r1 r2 : Rules) (k symbol : ℕ) (w : Word) (t : Machine) → Agree (leading_internal r1 k (front.Word symbol w) t) (leading_internal r2 k (front.Word symbol w) t) (λ answer. Fewer (left t + 1) (weight answer.1))
-internal_word-agrees r1 r2 k symbol word.Assign t = given (side.Target (target.Internal k), front.Word symbol word.Assign) t (λ answer. Fewer (left t + 1) (weight answer.1)) (record { went = omega arith })
-internal_word-agrees r1 r2 k symbol w t = given (side.Value (known_number (internal_value t.acts k)), front.Word symbol w) t (λ answer. Fewer (left t + 1) (weight answer.1)) (record { went = omega arith })
+internal_word-agrees : (k symbol : ℕ) (w : Word) (t : Machine) → Agree (leading_internal k (front.Word symbol w) t) (leading_internal k (front.Word symbol w) t) (λ answer. Fewer (left t + 1) (weight answer.1))
+internal_word-agrees k symbol word.Assign t = given (side.Target (target.Internal k), front.Word symbol word.Assign) t (λ answer. Fewer (left t + 1) (weight answer.1)) (record { went = omega arith })
+internal_word-agrees k symbol w t = given (side.Value (known_number (internal_value t.acts k)), front.Word symbol w) t (λ answer. Fewer (left t + 1) (weight answer.1)) (record { went = omega arith })
 
-leading_internal-agrees : (r1 r2 : Rules) (k : ℕ) (x : Front) (t : Machine) → Agree (leading_internal r1 k x t) (leading_internal r2 k x t) (λ answer. Fewer (left t + weight x) (weight answer.1))
-leading_internal-agrees r1 r2 k (front.Word symbol w) t = internal_word-agrees r1 r2 k symbol w t
-leading_internal-agrees r1 r2 k x t = given (side.Value (known_number (internal_value t.acts k)), x) t (λ answer. Fewer (left t + weight x) (weight answer.1)) (record { went = omega arith })
+leading_internal-agrees : (k : ℕ) (x : Front) (t : Machine) → Agree (leading_internal k x t) (leading_internal k x t) (λ answer. Fewer (left t + weight x) (weight answer.1))
+leading_internal-agrees k (front.Word symbol w) t = internal_word-agrees k symbol w t
+leading_internal-agrees k x t = given (side.Value (known_number (internal_value t.acts k)), x) t (λ answer. Fewer (left t + weight x) (weight answer.1)) (record { went = omega arith })
 
 leading_inside-agrees : (r1 r2 : Rules) (x : Front) (m : ℕ) (s : Machine) → 16 * (left s + weight x) + 1 < m → Below r1 r2 m → Agree (leading_inside r1 x s) (leading_inside r2 x s) (λ answer. Fewer (left s + weight x) (weight answer.1))
 leading_inside-agrees r1 r2 (front.Tag symbol) m s c h =
     agree-then (acted (root_of symbol s.acts) s (root_of-ends symbol s.acts)) (λ root t p.
     agree-then (h.at NextFront t (omega arith)) (λ next u q.
-    weaker (leading_variable-agrees r1 r2 symbol root next u) (λ answer w a. record { went = omega arith })))
+    agree-then (h.at (Suffix [] next) u (omega arith)) (λ name w e.
+    weaker (leading_variable-agrees symbol root name.0 name.1 w) (λ answer y a. record { went = omega arith }))))
 leading_inside-agrees r1 r2 (front.Internal symbol k) m s c h =
     agree-then (h.at NextFront s (omega arith)) (λ next t p.
-    weaker (leading_internal-agrees r1 r2 k next t) (λ answer u q. record { went = omega arith }))
+    weaker (leading_internal-agrees k next t) (λ answer u q. record { went = omega arith }))
 leading_inside-agrees r1 r2 x m s c h =
     agree-then (h.at (PrimaryInside x) s (omega arith)) (λ answer t p.
     given (side.Value answer.0, answer.1) t (λ answer. Fewer (left s + weight x) (weight answer.1)) (record { went = p.went }))
@@ -442,6 +492,42 @@ newinternal_list-agrees r1 r2 s h =
     agree-then (h.at NextFront made (omega arith)) (λ next u q.
     newinternal_more-agrees r1 r2 next (left s + 0) _ u (omega arith) (omega arith) h))
 
+shape_on-agrees : (r1 r2 : Rules) (parts : List Shape) (p : Shape) (b m : ℕ) (s : Machine) → left s ≤ b → 16 * b + 1 < m → Below r1 r2 m → Agree (shape_on r1 parts p s) (shape_on r2 parts p s) (λ answer. Fewer b (weight answer.1))
+shape_on-agrees r1 r2 parts p b m s q c h =
+    agree-then (room-agrees (length parts) s) (λ room t e.
+    agree-then (h.at NextFront t (omega arith)) (λ next u a.
+    weaker (h.at (DeclaredName (parts ++ p ∷ []) next) u (omega arith)) (λ answer w d. record { went = omega arith })))
+
+empty_bracket-agrees : (x : Front) (s : Machine) → Agree (empty_bracket x s) (empty_bracket x s) (λ y. AsMany s)
+empty_bracket-agrees (front.Word symbol word.RightBracket) s = given tt s (λ y. AsMany s) (record { went = refl })
+empty_bracket-agrees x s = stopped (Refused error.BadDeclaration) s (λ y. AsMany s) (λ e. cc)
+
+name_word-agrees : (r1 r2 : Rules) (parts : List Shape) (symbol : ℕ) (w : Word) (m : ℕ) (s : Machine) → 16 * (left s + 1) + 1 ≤ m → Below r1 r2 m → Agree (declared_name r1 parts (front.Word symbol w) s) (declared_name r2 parts (front.Word symbol w) s) (λ answer. Fewer (left s + 1) (weight answer.1))
+name_word-agrees r1 r2 parts symbol word.LeftBracket m s c h =
+    agree-then (h.at NextFront s (omega arith)) (λ x t p.
+    agree-then (empty_bracket-agrees x t) (λ closed u e.
+    weaker (shape_on-agrees r1 r2 parts shape.Any (left s) m u (omega arith) (omega arith) h) (λ answer w q. record { went = omega arith })))
+name_word-agrees r1 r2 parts symbol w m s c h = given (parts, front.Word symbol w) s (λ answer. Fewer (left s + 1) (weight answer.1)) (record { went = omega arith })
+
+declared_name-agrees : (r1 r2 : Rules) (parts : List Shape) (x : Front) (s : Machine) → Below r1 r2 (measure (DeclaredName parts x) s) → Agree (declared_name r1 parts x s) (declared_name r2 parts x s) (λ answer. Fewer (left s + weight x) (weight answer.1))
+declared_name-agrees r1 r2 parts (front.Tag symbol) s h = weaker (shape_on-agrees r1 r2 parts (shape.Sym symbol) (left s) _ s (omega arith) (omega arith) h) (λ answer t p. record { went = omega arith })
+declared_name-agrees r1 r2 parts (front.Internal symbol k) s h = weaker (shape_on-agrees r1 r2 parts (shape.Sym symbol) (left s) _ s (omega arith) (omega arith) h) (λ answer t p. record { went = omega arith })
+declared_name-agrees r1 r2 parts (front.Number n) s h = stopped (Refused error.BadDeclaration) s (λ answer. Fewer (left s + 1) (weight answer.1)) (λ e. cc)
+declared_name-agrees r1 r2 parts (front.Word symbol w) s h = name_word-agrees r1 r2 parts symbol w _ s (omega arith) h
+declared_name-agrees r1 r2 parts x s h = given (parts, x) s (λ answer. Fewer (left s + weight x) (weight answer.1)) (record { went = omega arith })
+
+type_more-agrees : (r1 r2 : Rules) (k : Kind) (x : Front) (b m : ℕ) (t : Machine) → left t + weight x ≤ b → 16 * b < m → Below r1 r2 m → Agree (type_more r1 k x t) (type_more r2 k x t) (λ next. Fewer b (weight next))
+type_more-agrees r1 r2 k (front.Word symbol word.Comma) b m t p c h = weaker (h.at (TypeList k) t (omega arith)) (λ next u q. record { went = omega arith })
+type_more-agrees r1 r2 k x b m t p c h = given x t (λ next. Fewer b (weight next)) (record { went = p })
+
+type_list-agrees : (r1 r2 : Rules) (k : Kind) (s : Machine) → Below r1 r2 (measure (TypeList k) s) → Agree (type_list r1 k s) (type_list r2 k s) (λ next. Fewer (left s + 0) (weight next))
+type_list-agrees r1 r2 k s h =
+    agree-then (raw_symbol-agrees r1 r2 _ s (omega arith) h) (λ symbol t p.
+    agree-then (h.at NextFront t (omega arith)) (λ next u q.
+    agree-then (h.at (DeclaredName [] next) u (omega arith)) (λ name w a.
+    agree-then (acted (declare symbol name.0 k w.acts) w (declare-ends symbol name.0 k w.acts)) (λ declared y e.
+    type_more-agrees r1 r2 k name.1 (left s + 0) _ y (omega arith) (omega arith) h))))
+
 equals_by-agrees : (b : Bool) (x : Raw) (s : Machine) → Agree (equals_by b x s) (equals_by b x s) (λ y. AsMany s)
 equals_by-agrees true x s = given tt s (λ y. AsMany s) (record { went = refl })
 equals_by-agrees false x s = stopped (refused_raw (codes "=") x s) s (λ y. AsMany s) (λ e. cc)
@@ -522,6 +608,7 @@ command-agrees r1 r2 command.Batchmode s h = h.at NextFront s (omega arith)
 command-agrees r1 r2 command.Scrollmode s h = h.at NextFront s (omega arith)
 command-agrees r1 r2 command.Nonstopmode s h = h.at NextFront s (omega arith)
 command-agrees r1 r2 command.Errorstopmode s h = h.at NextFront s (omega arith)
+command-agrees r1 r2 (command.Type k) s h = h.at (TypeList k) s (omega arith)
 
 -- STATEMENTS
 
@@ -535,6 +622,7 @@ statement_word-agrees r1 r2 symbol (word.Command k) m s c h =
 statement_word-agrees r1 r2 symbol word.Plus m s c h = weaker (h.at (Chain (front.Word symbol word.Plus)) s (omega arith)) (λ answer t p. record { went = p.went })
 statement_word-agrees r1 r2 symbol word.Minus m s c h = weaker (h.at (Chain (front.Word symbol word.Minus)) s (omega arith)) (λ answer t p. record { went = p.went })
 statement_word-agrees r1 r2 symbol word.Begingroup m s c h = weaker (h.at (Chain (front.Word symbol word.Begingroup)) s (omega arith)) (λ answer t p. record { went = p.went })
+statement_word-agrees r1 r2 symbol word.Str m s c h = weaker (h.at (Chain (front.Word symbol word.Str)) s (omega arith)) (λ answer t p. record { went = p.went })
 statement_word-agrees r1 r2 symbol w m s c h = stopped (refused_front (codes "statement") (front.Word symbol w) s) s (λ answer. Fewer (left s + 1) (weight answer.1)) (λ e. cc)
 
 statement-agrees : (r1 r2 : Rules) (x : Front) (s : Machine) → Below r1 r2 (measure (Statement x) s) → Agree (statement r1 x s) (statement r2 x s) (λ answer. Fewer (left s + weight x) (weight answer.1))
@@ -546,6 +634,7 @@ statement-agrees r1 r2 x s h = h.at (Chain x) s (omega arith)
 alone-agrees : (v : Value) (x : Front) (s : Machine) → Agree (may_stand_alone v x s) (may_stand_alone v x s) (λ y. AsMany s)
 alone-agrees value.Vacuous x s = given tt s (λ y. AsMany s) (record { went = refl })
 alone-agrees (value.Text bytes) x s = given tt s (λ y. AsMany s) (record { went = refl })
+alone-agrees (value.Unset kind.Text slot) x s = given tt s (λ y. AsMany s) (record { went = refl })
 alone-agrees v x s = stopped (refused_front (codes "=") x s) s (λ y. AsMany s) (λ e. cc)
 
 group_word-agrees : (r1 r2 : Rules) (symbol : ℕ) (w : Word) (b m : ℕ) (t : Machine) → left t + 1 ≤ b → 16 * b + 12 ≤ m → Below r1 r2 m → Agree (group_more r1 (front.Word symbol w) t) (group_more r2 (front.Word symbol w) t) (λ v. Fewer b 0)
@@ -609,6 +698,7 @@ case-agrees r1 r2 (Number n) s h = number-agrees r1 r2 n s h
 case-agrees r1 r2 (NumberThen n x) s h = number_then-agrees r1 r2 n x s h
 case-agrees r1 r2 (Factor v x) s h = factor-agrees r1 r2 v x (left s + weight x) _ s (omega arith) (omega arith) h
 case-agrees r1 r2 (Variable symbol) s h = variable-agrees r1 r2 symbol s h
+case-agrees r1 r2 (Suffix parts x) s h = suffix-agrees r1 r2 parts x s h
 case-agrees r1 r2 (Parenthesis pair) s h = parenthesis-agrees r1 r2 pair s h
 case-agrees r1 r2 Group s h = group-agrees r1 r2 s h
 case-agrees r1 r2 (PrimaryInside x) s h = primary_inside-agrees r1 r2 x s h
@@ -625,6 +715,8 @@ case-agrees r1 r2 (ChainRest sides last x) s h = chain_rest-agrees r1 r2 sides l
 case-agrees r1 r2 (ShowList x) s h = show_list-agrees r1 r2 x s h
 case-agrees r1 r2 SaveList s h = save_list-agrees r1 r2 s h
 case-agrees r1 r2 NewinternalList s h = newinternal_list-agrees r1 r2 s h
+case-agrees r1 r2 (DeclaredName parts x) s h = declared_name-agrees r1 r2 parts x s h
+case-agrees r1 r2 (TypeList k) s h = type_list-agrees r1 r2 k s h
 case-agrees r1 r2 Interim s h = interim-agrees r1 r2 s h
 case-agrees r1 r2 LetSymbol s h = let_equal-agrees r1 r2 s h
 case-agrees r1 r2 DelimiterPair s h = delimiter_pair-agrees r1 r2 s h

@@ -1,5 +1,5 @@
 -- Fronts: what a symbol is as a front, and what is said of a front that stood where something else was wanted.
-use Rattle.std.specs.Prelude.{ℕ, List, Bool, true, false, nat_le, codes}
+use Rattle.std.specs.Prelude.{ℕ, List, codes}
 use Rattle.mp_values.specs.Outcome.{Rule, give, halt}
 use Rattle.mp_values.specs.Refusals.{not_built, unexpected}
 use Rattle.mp_values.specs.declared.meaning.Meaning.{Meaning}
@@ -49,14 +49,3 @@ raw_stood acts raw.EndOfText = codes "end of text"
 
 abbrev pub refused_raw : List ℕ → Raw → Machine → Stop
 refused_raw wanted x s = unexpected wanted (raw_stood s.acts x)
-
--- the internals of the language; those behind them were made by newinternal
-abbrev pub own_internals : ℕ
-own_internals = 21
-
--- behind a variable: what would be a suffix
-abbrev pub begins_suffix : Front → Bool
-begins_suffix (front.Number n) = true
-begins_suffix (front.Tag symbol) = true
-begins_suffix (front.Internal symbol k) = nat_le own_internals k
-begins_suffix x = false

@@ -8,7 +8,7 @@ use Rattle.mp_values.specs.declared.stop.Stop.TheVariants.{NoMemory}
 use Rattle.mp_values.specs.declared.value.Value.{Value}
 use Rattle.mp_acts.specs.Reach.{reach}
 use Rattle.mp_eval.specs.Machine.{Machine, weight, left, unknowns}
-use Rattle.mp_eval.specs.Rules.{What, AnswerTo, Rules, case, NextFront, NextRaw, Number, NumberThen, Factor, Variable, Parenthesis, Group, PrimaryInside, Primary, Leading, Secondary, SecondaryRest, Tertiary, TertiaryRest, Expression, Part, Chain, ChainRest, ShowList, SaveList, NewinternalList, Interim, LetSymbol, DelimiterPair, Spoken, CommandOf, Statement, GroupStatements, Statements}
+use Rattle.mp_eval.specs.Rules.{What, AnswerTo, Rules, case, NextFront, NextRaw, Number, NumberThen, Factor, Variable, Suffix, Parenthesis, Group, PrimaryInside, Primary, Leading, Secondary, SecondaryRest, Tertiary, TertiaryRest, Expression, Part, Chain, ChainRest, ShowList, SaveList, NewinternalList, DeclaredName, TypeList, Interim, LetSymbol, DelimiterPair, Spoken, CommandOf, Statement, GroupStatements, Statements}
 use Rattle.mp_eval.specs.Sides.{reach_of_side}
 use Rattle.mp_eval.specs.Steps.{take_item}
 use Rattle.mp_eval.specs.declared.front.Front.{Front}
@@ -22,6 +22,7 @@ in_hand (Number n) = 0
 in_hand (NumberThen n next) = weight next
 in_hand (Factor v next) = weight next
 in_hand (Variable symbol) = 0
+in_hand (Suffix parts next) = weight next
 in_hand (Parenthesis pair) = 0
 in_hand Group = 0
 in_hand (PrimaryInside first) = weight first
@@ -38,6 +39,8 @@ in_hand (ChainRest sides last next) = weight next
 in_hand (ShowList first) = weight first
 in_hand SaveList = 0
 in_hand NewinternalList = 0
+in_hand (DeclaredName parts next) = weight next
+in_hand (TypeList kind) = 0
 in_hand Interim = 0
 in_hand LetSymbol = 0
 in_hand DelimiterPair = 0
@@ -51,6 +54,8 @@ in_hand (Statements first) = weight first
 abbrev pub rank : What → ℕ
 rank NextFront = 0
 rank NextRaw = 0
+rank (Suffix parts next) = 1
+rank (DeclaredName parts next) = 1
 rank (PrimaryInside first) = 1
 rank (Primary first) = 2
 rank (Leading first) = 2
@@ -70,6 +75,7 @@ rank (Chain first) = 9
 rank (ShowList first) = 8
 rank SaveList = 1
 rank NewinternalList = 1
+rank (TypeList kind) = 2
 rank Interim = 9
 rank LetSymbol = 1
 rank DelimiterPair = 1
@@ -100,6 +106,7 @@ behind (Number n) x = weight x.1
 behind (NumberThen n next) x = weight x.1
 behind (Factor v next) x = weight x.1
 behind (Variable symbol) x = weight x.1
+behind (Suffix parts next) x = weight x.1
 behind (Parenthesis pair) x = weight x.1
 behind Group x = weight x.1
 behind (PrimaryInside first) x = weight x.1
@@ -116,6 +123,8 @@ behind (ChainRest sides last next) x = weight x.1
 behind (ShowList first) x = weight x
 behind SaveList x = weight x
 behind NewinternalList x = weight x
+behind (DeclaredName parts next) x = weight x.1
+behind (TypeList kind) x = weight x
 behind Interim x = weight x
 behind LetSymbol x = weight x
 behind DelimiterPair x = weight x
@@ -133,6 +142,7 @@ reach_of_answer (Number n) x = reach x.0
 reach_of_answer (NumberThen n next) x = reach x.0
 reach_of_answer (Factor v next) x = reach x.0
 reach_of_answer (Variable symbol) x = reach x.0
+reach_of_answer (Suffix parts next) x = 0
 reach_of_answer (Parenthesis pair) x = reach x.0
 reach_of_answer Group x = reach x.0
 reach_of_answer (PrimaryInside first) x = reach x.0
@@ -149,6 +159,8 @@ reach_of_answer (ChainRest sides last next) x = reach x.0
 reach_of_answer (ShowList first) x = 0
 reach_of_answer SaveList x = 0
 reach_of_answer NewinternalList x = 0
+reach_of_answer (DeclaredName parts next) x = 0
+reach_of_answer (TypeList kind) x = 0
 reach_of_answer Interim x = 0
 reach_of_answer LetSymbol x = 0
 reach_of_answer DelimiterPair x = 0

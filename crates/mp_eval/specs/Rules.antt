@@ -1,30 +1,38 @@
 -- The meaning of a text: one function, by cases on what is asked.
 -- The grammar is that of Hobby, A User's Manual for MetaPost, as far as it is built, and of Knuth, The METAFONTbook,
 -- chapters 8, 25 and 26; the refusals are this project's own.
-use Rattle.std.specs.Prelude.{ℕ, ℤ, Bool, true, false, List, [], ◌∷◌, Option, Some, None, nat_eq, ◌&&◌, Ok, codes}
+use Rattle.std.specs.Prelude.{ℕ, ℤ, Bool, true, false, List, [], ◌∷◌, ◌++◌, Option, Some, None, length, nat_eq, nat_lt, ◌&&◌, Ok, codes}
+use Rattle.mp_report.specs.declared.error.Cap.TheVariants as cap
 use Rattle.mp_report.specs.declared.error.SourceError.TheVariants as error
 use Rattle.mp_values.specs.Outcome.{Rule, ◌>>=◌, give, halt, lift, change}
-use Rattle.mp_values.specs.Refusals.{not_built, bad_token}
+use Rattle.mp_values.specs.Refusals.{bad_token}
 use Rattle.mp_values.specs.declared.item.Item.{Item}
 use Rattle.mp_values.specs.declared.item.Item.TheVariants as item
 use Rattle.mp_values.specs.declared.meaning.Delimiters.{Delimiters}
 use Rattle.mp_values.specs.declared.meaning.Meaning.{Meaning}
 use Rattle.mp_values.specs.declared.meaning.Meaning.TheVariants as meaning
 use Rattle.mp_values.specs.declared.stop.Stop.TheVariants.{Refused}
+use Rattle.mp_values.specs.declared.value.Kind.{Kind}
+use Rattle.mp_values.specs.declared.value.Kind.TheVariants as kind
 use Rattle.mp_values.specs.declared.value.Value.{Value}
 use Rattle.mp_values.specs.declared.value.Value.TheVariants as value
 use Rattle.mp_values.specs.declared.word.Command.{Command}
 use Rattle.mp_values.specs.declared.word.Command.TheVariants as command
 use Rattle.mp_values.specs.declared.word.Word.{Word}
 use Rattle.mp_values.specs.declared.word.Word.TheVariants as word
+use Rattle.mp_vartree.specs.declared.names.Part.{Part as NamePart}
+use Rattle.mp_vartree.specs.declared.names.Part.TheVariants as name_part
+use Rattle.mp_vartree.specs.declared.names.Shape.{Shape}
+use Rattle.mp_vartree.specs.declared.names.Shape.TheVariants as shape
 use Rattle.mp_acts.specs.State.{State, symbol_name, symbol_meaning}
 use Rattle.mp_acts.specs.Arithmetic.{known_number, sum, difference, positive, negated, product, quotient, fraction}
-use Rattle.mp_acts.specs.Variables.{root_of, read}
+use Rattle.mp_acts.specs.Suffixes.{suffix_string, subscript}
+use Rattle.mp_acts.specs.Variables.{root_of, read, declare}
 use Rattle.mp_acts.specs.Lines.{show, message, errmessage, errhelp}
 use Rattle.mp_acts.specs.Groups.{open_group, end_group, save, let_symbol, delimiters, new_internal, interim}
-use Rattle.mp_acts.specs.declared.variable.Target.TheVariants as target
+use Rattle.mp_acts.specs.declared.target.Target.TheVariants as target
 use Rattle.mp_eval.specs.Machine.{Machine}
-use Rattle.mp_eval.specs.Fronts.{symbol_front, begins_suffix}
+use Rattle.mp_eval.specs.Fronts.{symbol_front}
 use Rattle.mp_eval.specs.Steps.{take_item, enter, leave, hold, acting, internal_number, unexpected, unexpected_raw}
 use Rattle.mp_eval.specs.Sides.{settle}
 use Rattle.mp_eval.specs.declared.front.Front.{Front}
@@ -42,6 +50,7 @@ pub data What : Type 0 where
   NumberThen : ℤ → Front → What
   Factor : Value → Front → What
   Variable : ℕ → What
+  Suffix : List NamePart → Front → What
   Parenthesis : Delimiters → What
   Group : What
   PrimaryInside : Front → What
@@ -58,6 +67,8 @@ pub data What : Type 0 where
   ShowList : Front → What
   SaveList : What
   NewinternalList : What
+  DeclaredName : List Shape → Front → What
+  TypeList : Kind → What
   Interim : What
   LetSymbol : What
   DelimiterPair : What
@@ -75,6 +86,7 @@ AnswerTo (Number n) = Value × Front
 AnswerTo (NumberThen n next) = Value × Front
 AnswerTo (Factor v next) = Value × Front
 AnswerTo (Variable symbol) = Value × Front
+AnswerTo (Suffix parts next) = List NamePart × Front
 AnswerTo (Parenthesis pair) = Value × Front
 AnswerTo Group = Value × Front
 AnswerTo (PrimaryInside first) = Value × Front
@@ -91,6 +103,8 @@ AnswerTo (ChainRest sides last next) = Value × Front
 AnswerTo (ShowList first) = Front
 AnswerTo SaveList = Front
 AnswerTo NewinternalList = Front
+AnswerTo (DeclaredName parts next) = List Shape × Front
+AnswerTo (TypeList kind) = Front
 AnswerTo Interim = Front
 AnswerTo LetSymbol = Front
 AnswerTo DelimiterPair = Front
@@ -166,6 +180,7 @@ factor rule v (front.Tag symbol) = times rule v (front.Tag symbol)
 factor rule v (front.Internal symbol k) = times rule v (front.Internal symbol k)
 factor rule v (front.Left symbol pair) = times rule v (front.Left symbol pair)
 factor rule v (front.Word symbol word.Begingroup) = times rule v (front.Word symbol word.Begingroup)
+factor rule v (front.Word symbol word.Str) = times rule v (front.Word symbol word.Str)
 factor rule v x = give (v, x)
 
 -- NUMBER / NUMBER, or a number with a slash behind it, whose next front is held
@@ -189,19 +204,52 @@ number rule n = do
   next ← rule NextFront
   rule (NumberThen n next)
 
--- what would be a suffix is not built
-abbrev pub without_suffix : Bool → Rule Machine (Unit {0})
-without_suffix true = halt (not_built (codes "suffix"))
-without_suffix false = give tt
+-- a name may have 50 parts behind its tag
+abbrev pub room_by : Bool → Rule Machine (Unit {0})
+room_by true = give tt
+room_by false = halt (Refused (error.Limit cap.Suffix 50))
 
--- a variable is read when the front behind it was got
+-- one more part, behind so many
+abbrev pub room_for_part : ℕ → Rule Machine (Unit {0})
+room_for_part count = room_by (nat_lt count 50)
+
+-- the parts so far and one more, and what is behind it
+abbrev pub part_on : Rules → List NamePart → NamePart → Rule Machine (List NamePart × Front)
+part_on rule parts p = do
+  room ← room_for_part (length parts)
+  next ← rule NextFront
+  rule (Suffix (parts ++ p ∷ []) next)
+
+abbrev pub bracket_end : Front → Rule Machine (Unit {0})
+bracket_end (front.Word symbol word.RightBracket) = give tt
+bracket_end x = unexpected (codes "]") x
+
+-- the units of a subscript in brackets, behind the left one
+abbrev pub bracketed : Rules → Rule Machine ℤ
+bracketed rule = do
+  first ← rule NextFront
+  e ← rule (Expression first)
+  closed ← bracket_end e.1
+  acting (subscript e.0)
+
+-- symbols that are tags or internals, numbers, and subscripts in brackets
+abbrev pub suffix : Rules → List NamePart → Front → Rule Machine (List NamePart × Front)
+suffix rule parts (front.Tag symbol) = part_on rule parts (name_part.Sym symbol)
+suffix rule parts (front.Internal symbol k) = part_on rule parts (name_part.Sym symbol)
+suffix rule parts (front.Number n) = part_on rule parts (name_part.Sub n)
+suffix rule parts (front.Word symbol word.LeftBracket) = do
+  value ← bracketed rule
+  part_on rule parts (name_part.Sub value)
+suffix rule parts x = give (parts, x)
+
+-- a variable is read when the front behind its name was got
 abbrev pub variable : Rules → ℕ → Rule Machine (Value × Front)
 variable rule symbol = do
   root ← acting (root_of symbol)
   next ← rule NextFront
-  plain ← without_suffix (begins_suffix next)
-  v ← acting (read symbol root)
-  give (v, next)
+  name ← rule (Suffix [] next)
+  v ← acting (read symbol root name.0)
+  give (v, name.1)
 
 abbrev pub internal : Rules → ℕ → Rule Machine (Value × Front)
 internal rule k = do
@@ -257,10 +305,19 @@ minus_primary rule = do
   v ← acting (negated right.0)
   give (v, right.1)
 
+-- str SUFFIX
+abbrev pub str_primary : Rules → Rule Machine (Value × Front)
+str_primary rule = do
+  first ← rule NextFront
+  name ← rule (Suffix [] first)
+  text ← acting (suffix_string name.0)
+  give (text, name.1)
+
 abbrev pub primary_word : Rules → ℕ → Word → Rule Machine (Value × Front)
 primary_word rule symbol word.Plus = plus_primary rule
 primary_word rule symbol word.Minus = minus_primary rule
 primary_word rule symbol word.Begingroup = rule Group
+primary_word rule symbol word.Str = str_primary rule
 primary_word rule symbol w = unexpected (codes "primary") (front.Word symbol w)
 
 abbrev pub primary_inside : Rules → Front → Rule Machine (Value × Front)
@@ -283,16 +340,15 @@ primary rule first = do
   give p
 
 -- the first primary of a part of a chain: a variable or an internal with := behind it is a target
-abbrev pub leading_variable : Rules → ℕ → ℕ → Front → Rule Machine (Side × Front)
-leading_variable rule symbol root (front.Word s word.Assign) = give (side.Target (target.Variable root), front.Word s word.Assign)
-leading_variable rule symbol root next = do
-  plain ← without_suffix (begins_suffix next)
-  v ← acting (read symbol root)
+abbrev pub leading_variable : ℕ → ℕ → List NamePart → Front → Rule Machine (Side × Front)
+leading_variable symbol root parts (front.Word s word.Assign) = give (side.Target (target.Variable root parts), front.Word s word.Assign)
+leading_variable symbol root parts next = do
+  v ← acting (read symbol root parts)
   give (side.Value v, next)
 
-abbrev pub leading_internal : Rules → ℕ → Front → Rule Machine (Side × Front)
-leading_internal rule k (front.Word s word.Assign) = give (side.Target (target.Internal k), front.Word s word.Assign)
-leading_internal rule k next = do
+abbrev pub leading_internal : ℕ → Front → Rule Machine (Side × Front)
+leading_internal k (front.Word s word.Assign) = give (side.Target (target.Internal k), front.Word s word.Assign)
+leading_internal k next = do
   v ← internal_number k
   give (side.Value v, next)
 
@@ -300,10 +356,11 @@ abbrev pub leading_inside : Rules → Front → Rule Machine (Side × Front)
 leading_inside rule (front.Tag symbol) = do
   root ← acting (root_of symbol)
   next ← rule NextFront
-  leading_variable rule symbol root next
+  name ← rule (Suffix [] next)
+  leading_variable symbol root name.0 name.1
 leading_inside rule (front.Internal symbol k) = do
   next ← rule NextFront
-  leading_internal rule k next
+  leading_internal k next
 leading_inside rule x = do
   p ← rule (PrimaryInside x)
   give (side.Value p.0, p.1)
@@ -464,6 +521,41 @@ newinternal_list rule = do
   next ← rule NextFront
   newinternal_more rule next
 
+-- a declared name's parts so far and one more, and what is behind it
+abbrev pub shape_on : Rules → List Shape → Shape → Rule Machine (List Shape × Front)
+shape_on rule parts p = do
+  room ← room_for_part (length parts)
+  next ← rule NextFront
+  rule (DeclaredName (parts ++ p ∷ []) next)
+
+abbrev pub empty_bracket : Front → Rule Machine (Unit {0})
+empty_bracket (front.Word symbol word.RightBracket) = give tt
+empty_bracket x = halt (Refused error.BadDeclaration)
+
+-- symbols that are tags or internals, and [] for any subscript
+abbrev pub declared_name : Rules → List Shape → Front → Rule Machine (List Shape × Front)
+declared_name rule parts (front.Tag symbol) = shape_on rule parts (shape.Sym symbol)
+declared_name rule parts (front.Internal symbol k) = shape_on rule parts (shape.Sym symbol)
+declared_name rule parts (front.Number n) = halt (Refused error.BadDeclaration)
+declared_name rule parts (front.Word symbol word.LeftBracket) = do
+  x ← rule NextFront
+  closed ← empty_bracket x
+  shape_on rule parts shape.Any
+declared_name rule parts x = give (parts, x)
+
+abbrev pub type_more : Rules → Kind → Front → Rule Machine Front
+type_more rule kind (front.Word symbol word.Comma) = rule (TypeList kind)
+type_more rule kind next = give next
+
+-- each name of a declaration takes effect when the front behind it was got
+abbrev pub type_list : Rules → Kind → Rule Machine Front
+type_list rule kind = do
+  symbol ← raw_symbol rule
+  next ← rule NextFront
+  name ← rule (DeclaredName [] next)
+  declared ← acting (declare symbol name.0 kind)
+  type_more rule kind name.1
+
 -- the = or := of let, as a raw item
 abbrev pub is_equals : Meaning → Bool
 is_equals (meaning.Word word.Equals) = true
@@ -561,6 +653,7 @@ command_of rule command.Batchmode = rule NextFront
 command_of rule command.Scrollmode = rule NextFront
 command_of rule command.Nonstopmode = rule NextFront
 command_of rule command.Errorstopmode = rule NextFront
+command_of rule (command.Type kind) = rule (TypeList kind)
 
 -- STATEMENTS
 
@@ -581,6 +674,7 @@ statement_word rule symbol (word.Command c) = commanded rule c
 statement_word rule symbol word.Plus = rule (Chain (front.Word symbol word.Plus))
 statement_word rule symbol word.Minus = rule (Chain (front.Word symbol word.Minus))
 statement_word rule symbol word.Begingroup = rule (Chain (front.Word symbol word.Begingroup))
+statement_word rule symbol word.Str = rule (Chain (front.Word symbol word.Str))
 statement_word rule symbol w = unexpected (codes "statement") (front.Word symbol w)
 
 abbrev pub statement : Rules → Front → Rule Machine (Value × Front)
@@ -589,10 +683,11 @@ statement rule front.EndOfText = empty front.EndOfText
 statement rule (front.Right symbol pair) = unexpected (codes "statement") (front.Right symbol pair)
 statement rule first = rule (Chain first)
 
--- an expression that stands alone is a string or vacuous
+-- an expression that stands alone is a string, with or without a value, or vacuous
 abbrev pub may_stand_alone : Value → Front → Rule Machine (Unit {0})
 may_stand_alone value.Vacuous next = give tt
 may_stand_alone (value.Text bytes) next = give tt
+may_stand_alone (value.Unset kind.Text slot) next = give tt
 may_stand_alone v next = unexpected (codes "=") next
 
 -- behind a statement of a group: its end, where the expression that stands alone is the group's value, or more
@@ -642,6 +737,7 @@ case rule (Number n) = number rule n
 case rule (NumberThen n next) = number_then rule n next
 case rule (Factor v next) = factor rule v next
 case rule (Variable symbol) = variable rule symbol
+case rule (Suffix parts next) = suffix rule parts next
 case rule (Parenthesis pair) = parenthesis rule pair
 case rule Group = group rule
 case rule (PrimaryInside first) = primary_inside rule first
@@ -658,6 +754,8 @@ case rule (ChainRest sides last next) = chain_rest rule sides last next
 case rule (ShowList first) = show_list rule first
 case rule SaveList = save_list rule
 case rule NewinternalList = newinternal_list rule
+case rule (DeclaredName parts next) = declared_name rule parts next
+case rule (TypeList kind) = type_list rule kind
 case rule Interim = interim_value rule
 case rule LetSymbol = let_equal rule
 case rule DelimiterPair = delimiter_pair rule

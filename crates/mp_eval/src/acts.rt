@@ -6,6 +6,7 @@ ghost use Rattle.mp_acts.specs.Arithmetic as arithmetic;
 ghost use Rattle.mp_acts.specs.Groups as groups;
 ghost use Rattle.mp_acts.specs.Lines as lines;
 ghost use Rattle.mp_acts.specs.Reach.{reach};
+ghost use Rattle.mp_acts.specs.Suffixes as suffixes;
 ghost use Rattle.mp_acts.specs.Variables as variables;
 ghost use Rattle.mp_eval.specs.Machine.{unknowns};
 ghost use Rattle.mp_eval.specs.Rules.{spoken_by};
@@ -15,7 +16,8 @@ ghost use Rattle.mp_eval.specs.Steps.{acting, internal_number};
 
 use crate::evaluator::Evaluator;
 use crate::side::Side;
-use mp_values::{Command, Scaled, Stop, Value};
+use mp_values::{Command, Kind, Scaled, Stop, Value};
+use mp_vartree::{Part, Shape};
 
 impl Evaluator {
     /// The sum of two numbers.
@@ -93,11 +95,33 @@ impl Evaluator {
         self.acts.root_of(symbol)
     }
 
-    /// The value of the variable of a root, whose tag that symbol is.
-    pub(crate) fn read(&mut self, symbol: u32, root: u32) -> Result<Value, Stop>
-        ensures { ActsValue (acting (variables.read symbol root)) result self.old self.new }
+    /// The value of the variable of a root, whose tag that symbol is, with these parts behind it.
+    pub(crate) fn read(&mut self, symbol: u32, root: u32, name: &[Part]) -> Result<Value, Stop>
+        ensures { ActsValue (acting (variables.read symbol root name.now)) result self.old self.new }
     {
-        self.acts.do_read(symbol, root)
+        self.acts.do_read(symbol, root, name)
+    }
+
+    /// Declares the variables of a pattern.
+    pub(crate) fn declare(&mut self, symbol: u32, name: &[Shape], kind: Kind) -> Result<(), Stop>
+        ensures { Acts (acting (variables.declare symbol name.now kind)) result self.old self.new }
+    {
+        self.acts.do_declare(symbol, name, kind)
+    }
+
+    /// The text of a suffix, as a string.
+    pub(crate) fn suffix_string(&self, suffix: &[Part]) -> Result<Value, Stop>
+        ensures { ActsValue (acting (suffixes.suffix_string suffix.now)) result self.now self.now }
+    {
+        self.acts.suffix_string(suffix)
+    }
+
+    /// The units of a subscript, which must be a known number.
+    pub(crate) fn subscript(&self, value: &Value) -> Result<i32, Stop>
+        requires { reach value.now ≤ unknowns self.now }
+        ensures { Acts (acting (suffixes.subscript value.now)) result self.now self.now }
+    {
+        self.acts.subscript(value)
     }
 
     /// The value of an internal.
@@ -117,6 +141,7 @@ impl Evaluator {
 
     /// Says a string, as a message, as the error that ends the run, or as help.
     pub(crate) fn say(&mut self, command: Command, value: &Value) -> Result<(), Stop>
+        requires { reach value.now ≤ unknowns self.old }
         ensures { Acts (acting (spoken_by command value.now)) result self.old self.new }
     {
         match command {
@@ -134,7 +159,7 @@ impl Evaluator {
     {
         match side {
             Side::Value(left) => self.acts.do_equation(left, value),
-            Side::Target(target) => self.acts.do_assign(*target, value),
+            Side::Target(target) => self.acts.do_assign(target, value),
         }
     }
 
@@ -149,8 +174,7 @@ impl Evaluator {
     pub(crate) fn end_group(&mut self) -> Result<(), Stop>
         ensures { Acts (acting (change groups.end_group)) result self.old self.new }
     {
-        self.acts.do_end_group();
-        Ok(())
+        self.acts.do_end_group()
     }
 
     /// Makes a symbol a new tag, up to the end of the group.

@@ -2,13 +2,13 @@
 
 ghost use Rattle.std.specs.Prelude.{◌≡◌, ◌≤◌};
 ghost use Rattle.mp_eval.specs.Machine.{weight};
-ghost use Rattle.mp_eval.specs.Rules.{ShowList, SaveList, NewinternalList, Interim, LetSymbol, DelimiterPair, Spoken, CommandOf};
+ghost use Rattle.mp_eval.specs.Rules.{ShowList, SaveList, NewinternalList, TypeList, Interim, LetSymbol, DelimiterPair, Spoken, CommandOf};
 ghost use Rattle.mp_eval.specs.Meaning.{Means, ReadsFront, Acts, the};
 ghost use Rattle.mp_eval.specs.Rules as rules;
 
 use crate::evaluator::Evaluator;
 use crate::front::{Front, Raw};
-use mp_values::{Command, Meaning, Stop, Word};
+use mp_values::{Command, Kind, Meaning, Stop, Word};
 
 impl Evaluator {
     /// Expressions to be shown; each is shown when the front behind it was got.
@@ -52,6 +52,23 @@ impl Evaluator {
             let symbol = self.raw_symbol()?;
             self.new_internal(symbol)?;
             match self.front()? {
+                Front::Word(_, Word::Comma) => {}
+                next => return Ok(next),
+            }
+        }
+    }
+
+    /// Names whose variables get a type; each is declared when the front behind it was got.
+    #[tactic(auto, using(crate::proofs::Cases::type_list_is))]
+    fn type_list(&mut self, kind: Kind) -> Result<Front, Stop>
+        ensures { Means (TypeList kind) result self.old self.new }
+    {
+        'names: loop {
+            let symbol = self.raw_symbol()?;
+            let first = self.front()?;
+            let (name, next) = self.declared_name(first)?;
+            self.declare(symbol, name.as_slice(), kind)?;
+            match next {
                 Front::Word(_, Word::Comma) => {}
                 next => return Ok(next),
             }
@@ -165,6 +182,7 @@ impl Evaluator {
             | Command::Scrollmode
             | Command::Nonstopmode
             | Command::Errorstopmode => self.front(),
+            Command::Type(kind) => self.type_list(kind),
         }
     }
 }

@@ -2,10 +2,9 @@
 
 ghost use Rattle.std.specs.Prelude.{◌≡◌, ◌≤◌, ◌+◌};
 ghost use Rattle.mp_acts.specs.Reach.{reach};
-ghost use Rattle.mp_eval.specs.Fronts.{begins_suffix};
 ghost use Rattle.mp_eval.specs.Machine.{unknowns, weight};
 ghost use Rattle.mp_eval.specs.Rules.{Number, NumberThen, Factor, Variable, Parenthesis, Group, PrimaryInside, Primary, Leading};
-ghost use Rattle.mp_eval.specs.Meaning.{Means, ReadsValue, ReadsSide, Acts, the};
+ghost use Rattle.mp_eval.specs.Meaning.{Means, ReadsValue, ReadsSide, the};
 ghost use Rattle.mp_eval.specs.Rules as rules;
 
 use crate::evaluator::Evaluator;
@@ -13,20 +12,7 @@ use crate::front::Front;
 use crate::side::Side;
 use mp_acts::Target;
 use mp_values::{Delimiters, Scaled, Stop, Value, Word};
-
-/// The internals of the language; those behind them were made by `newinternal`.
-const OWN_INTERNALS: u32 = 21;
-
-/// Behind a variable: what would be a suffix.
-fn begins_suffix(front: &Front) -> bool
-    ensures { result ≡ begins_suffix front.now }
-{
-    match front {
-        Front::Number(_) | Front::Tag(_) => true,
-        Front::Internal(_, k) => *k >= OWN_INTERNALS,
-        _ => false,
-    }
-}
+use mp_vartree::Suffix;
 
 impl Evaluator {
     /// A number, or a fraction of two, and its product with what is directly behind it.
@@ -92,7 +78,7 @@ impl Evaluator {
             | Front::Tag(_)
             | Front::Internal(_, _)
             | Front::Left(_, _)
-            | Front::Word(_, Word::Begingroup) => self.times(value, next),
+            | Front::Word(_, Word::Begingroup | Word::Str) => self.times(value, next),
             next => Ok((value, next)),
         }
     }
@@ -107,26 +93,16 @@ impl Evaluator {
         Ok((product, next))
     }
 
-    /// Refuses what would be the suffix of a variable.
-    fn without_suffix(&self, next: &Front) -> Result<(), Stop>
-        ensures { Acts (rules.without_suffix (begins_suffix next.now)) result self.now self.now }
-    {
-        if begins_suffix(next) {
-            Err(Stop::not_built(self.alloc, b"suffix"))
-        } else {
-            Ok(())
-        }
-    }
-
-    /// A variable, which is read when the front behind it was got.
+    /// A variable, which is read when the front behind its name was got.
+    #[cycle(eval)]
     #[tactic(auto, using(crate::proofs::Cases::variable_is))]
     fn variable(&mut self, symbol: u32) -> Result<(Value, Front), Stop>
         ensures { Means (Variable symbol) result self.old self.new }
     {
         let root = self.root_of(symbol)?;
-        let next = self.front()?;
-        self.without_suffix(&next)?;
-        let value = self.read(symbol, root)?;
+        let first = self.front()?;
+        let (name, next) = self.suffix(first)?;
+        let value = self.read(symbol, root, name.as_slice())?;
         Ok((value, next))
     }
 
@@ -202,6 +178,17 @@ impl Evaluator {
         Ok((value, next))
     }
 
+    /// The text of a suffix.
+    #[cycle(eval)]
+    fn str_primary(&mut self) -> Result<(Value, Front), Stop>
+        ensures { ReadsValue (rules.str_primary the) 0 result self.old self.new }
+    {
+        let first = self.front()?;
+        let (name, next) = self.suffix(first)?;
+        let text = self.suffix_string(name.as_slice())?;
+        Ok((text, next))
+    }
+
     #[cycle(eval)]
     fn primary_word(&mut self, symbol: u32, word: Word) -> Result<(Value, Front), Stop>
         ensures { ReadsValue (rules.primary_word the symbol word) 1 result self.old self.new }
@@ -210,6 +197,7 @@ impl Evaluator {
             Word::Plus => self.plus_primary(),
             Word::Minus => self.minus_primary(),
             Word::Begingroup => self.group(),
+            Word::Str => self.str_primary(),
             _ => Err(self.unexpected(b"primary", &Front::Word(symbol, word))),
         }
     }
@@ -254,22 +242,22 @@ impl Evaluator {
         &mut self,
         symbol: u32,
         root: u32,
+        name: Suffix,
         next: Front,
     ) -> Result<(Side, Front), Stop>
-        ensures { ReadsSide (rules.leading_variable the symbol root next) (weight next) result self.old self.new }
+        ensures { ReadsSide (rules.leading_variable symbol root name next) (weight next) result self.old self.new }
     {
         match &next {
-            Front::Word(_, Word::Assign) => Ok((Side::Target(Target::Variable(root)), next)),
+            Front::Word(_, Word::Assign) => Ok((Side::Target(Target::Variable(root, name)), next)),
             _ => {
-                self.without_suffix(&next)?;
-                let value = self.read(symbol, root)?;
+                let value = self.read(symbol, root, name.as_slice())?;
                 Ok((Side::Value(value), next))
             }
         }
     }
 
     fn leading_internal(&mut self, k: u32, next: Front) -> Result<(Side, Front), Stop>
-        ensures { ReadsSide (rules.leading_internal the k next) (weight next) result self.old self.new }
+        ensures { ReadsSide (rules.leading_internal k next) (weight next) result self.old self.new }
     {
         match &next {
             Front::Word(_, Word::Assign) => Ok((Side::Target(Target::Internal(k)), next)),
@@ -287,8 +275,9 @@ impl Evaluator {
         match first {
             Front::Tag(symbol) => {
                 let root = self.root_of(symbol)?;
-                let next = self.front()?;
-                self.leading_variable(symbol, root, next)
+                let first = self.front()?;
+                let (name, next) = self.suffix(first)?;
+                self.leading_variable(symbol, root, name, next)
             }
             Front::Internal(_, k) => {
                 let next = self.front()?;

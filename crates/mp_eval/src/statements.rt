@@ -10,7 +10,7 @@ ghost use Rattle.mp_eval.specs.Rules as rules;
 use crate::evaluator::Evaluator;
 use crate::front::Front;
 use mp_report::SourceError;
-use mp_values::{Command, Stop, Value, Word};
+use mp_values::{Command, Kind, Stop, Value, Word};
 
 impl Evaluator {
     #[cycle(eval)]
@@ -30,7 +30,9 @@ impl Evaluator {
                 Ok((Value::Vacuous, Front::Word(symbol, word)))
             }
             Word::Command(command) => self.commanded(command),
-            Word::Plus | Word::Minus | Word::Begingroup => self.chain(Front::Word(symbol, word)),
+            Word::Plus | Word::Minus | Word::Begingroup | Word::Str => {
+                self.chain(Front::Word(symbol, word))
+            }
             _ => Err(self.unexpected(b"statement", &Front::Word(symbol, word))),
         }
     }
@@ -52,12 +54,12 @@ impl Evaluator {
         }
     }
 
-    /// An expression that stands alone is a string or vacuous.
+    /// An expression that stands alone is a string, with or without a value, or vacuous.
     fn may_stand_alone(&self, value: &Value, next: &Front) -> Result<(), Stop>
         ensures { Acts (rules.may_stand_alone value.now next.now) result self.now self.now }
     {
         match value {
-            Value::Vacuous | Value::Text(_) => Ok(()),
+            Value::Vacuous | Value::Text(_) | Value::Unset(Kind::Text, _) => Ok(()),
             _ => Err(self.unexpected(b"=", next)),
         }
     }

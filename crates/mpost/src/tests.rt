@@ -82,11 +82,7 @@ const TEXTS: [(&str, &str, u8); 50] = [
         "a.mp:1: error 7 Unexpected \"primary\" \"end of text\"\n",
         1,
     ),
-    (
-        "show + -1, 1- +1, --1;\n",
-        ">> -1\n>> 0\n>> --1\n",
-        0,
-    ),
+    ("show + -1, 1- +1, --1;\n", ">> -1\n>> 0\n>> --1\n", 0),
     (
         "show 1/2/3, 6/(2), -3/(2), 2(3)*4, 2+3*4;\n",
         ">> 0.16667\n>> 3\n>> -1.5\n>> 24\n>> 14\n",
@@ -132,7 +128,11 @@ const TEXTS: [(&str, &str, u8); 50] = [
         0,
     ),
     ("linecap:=x;\n", "a.mp:1: error 9 NotKnown :=\n", 1),
-    ("\"a\"=\"b\";\n", "a.mp:1: error 8 WrongType =\n", 1),
+    (
+        "\"a\"=\"a\"; \"a\"=\"b\";\n",
+        "## redundant 0\na.mp:1: error 13 Inconsistent 0\n",
+        1,
+    ),
     (
         "let a=show; a (2)*3; begingroup interim linecap:=2; a linecap; endgroup; a linecap; end",
         ">> 6\n>> 2\n>> 1\n",
@@ -386,9 +386,27 @@ fn nested(alloc: Global, depth: u32) -> Result<Vec<u8>, AllocError> {
 fn names_have_fifty_parts(rt: HostRuntime) -> Result<(), Fail> {
     let alloc = rt.alloc();
     let rows: [(&str, &str, u32, &str, &str); 5] = [
-        ("show a", ".b", 51, ";\n", "a.mp:1: error 28 Limit Suffix 50\n"),
-        ("show str a", ".b", 50, ";\n", "a.mp:1: error 28 Limit Suffix 50\n"),
-        ("numeric a", "[]", 51, ";\n", "a.mp:1: error 28 Limit Suffix 50\n"),
+        (
+            "show a",
+            ".b",
+            51,
+            ";\n",
+            "a.mp:1: error 28 Limit Suffix 50\n",
+        ),
+        (
+            "show str a",
+            ".b",
+            50,
+            ";\n",
+            "a.mp:1: error 28 Limit Suffix 50\n",
+        ),
+        (
+            "numeric a",
+            "[]",
+            51,
+            ";\n",
+            "a.mp:1: error 28 Limit Suffix 50\n",
+        ),
         ("a", "[1]", 50, "=7; show 2;\n", ">> 2\n"),
         (
             "b=-32767.99998; show str ",

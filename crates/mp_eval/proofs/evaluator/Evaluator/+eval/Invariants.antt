@@ -1,8 +1,8 @@
-use Rattle.std.proofs.Common.{◌≡◌, ◌≤◌, ◌+◌, ◌*◌, reverse}
+use Rattle.std.proofs.Common.{◌≡◌, ◌≤◌, ◌+◌, ◌*◌, [], reverse}
 use Rattle.mp_acts.specs.Reach.{reach}
 use Rattle.mp_eval.specs.Machine.{left, weight, unknowns}
 use Rattle.mp_eval.specs.Sides.{reach_of_side, reach_of_sides}
-use Rattle.mp_eval.specs.Rules.{Number, NumberThen, Factor, Parenthesis, Group, PrimaryInside, Primary, Leading, Secondary, SecondaryRest, Tertiary, TertiaryRest, Expression, Part, Chain, ChainRest, ShowList, Interim, Spoken, CommandOf, Statement, GroupStatements}
+use Rattle.mp_eval.specs.Rules.{Number, NumberThen, Factor, Variable, Suffix, Parenthesis, Group, PrimaryInside, Primary, Leading, Secondary, SecondaryRest, Tertiary, TertiaryRest, Expression, Part, Chain, ChainRest, ShowList, Interim, Spoken, CommandOf, Statement, GroupStatements}
 use Rattle.mp_eval.specs.Meaning.{the, measure}
 use Rattle.mp_eval.proofs.evaluator.Evaluator.+eval.Given as goal
 
@@ -16,6 +16,12 @@ decreases-number_then l = 2 * measure (NumberThen l.value l.next) l.self.now
 
 abbrev pub decreases-factor : goal.decreases-factor
 decreases-factor l = 2 * measure (Factor l.value l.next) l.self.now
+
+abbrev pub decreases-variable : goal.decreases-variable
+decreases-variable l = 2 * measure (Variable l.symbol) l.self.now
+
+abbrev pub decreases-suffix : goal.decreases-suffix
+decreases-suffix l = 2 * measure (Suffix [] l.first) l.self.now
 
 abbrev pub decreases-parenthesis : goal.decreases-parenthesis
 decreases-parenthesis l = 2 * measure (Parenthesis l.pair) l.self.now
@@ -82,6 +88,12 @@ decreases-plus_primary l = 2 * (16 * (left l.self.now + 0) + 2) + 1
 
 abbrev pub decreases-minus_primary : goal.decreases-minus_primary
 decreases-minus_primary l = 2 * (16 * (left l.self.now + 0) + 2) + 1
+
+abbrev pub decreases-bracketed : goal.decreases-bracketed
+decreases-bracketed l = 2 * (16 * (left l.self.now + 0) + 7) + 1
+
+abbrev pub decreases-str_primary : goal.decreases-str_primary
+decreases-str_primary l = 2 * (16 * (left l.self.now + 0) + 1) + 1
 
 abbrev pub decreases-leading_inside : goal.decreases-leading_inside
 decreases-leading_inside l = 2 * (16 * (left l.self.now + weight l.first) + 1) + 1
@@ -171,3 +183,14 @@ invariant-group_statements-statements l = record {
 
 abbrev pub decreases-group_statements-statements : goal.decreases-group_statements-statements
 decreases-group_statements-statements l = left l.self + weight l.first
+
+abbrev pub invariant-suffix-parts : goal.invariant-suffix-parts
+invariant-suffix-parts l = record {
+  leads : the (Suffix [] l.fn.first) l.fn.self ≡ the (Suffix l.parts l.next) l.self;
+  went : left l.self + weight l.next ≤ left l.fn.self + weight l.fn.first;
+  kept : l.self.budget ≡ l.fn.self.budget;
+  grown : unknowns l.fn.self ≤ unknowns l.self;
+}
+
+abbrev pub decreases-suffix-parts : goal.decreases-suffix-parts
+decreases-suffix-parts l = left l.self + weight l.next
