@@ -1,5 +1,5 @@
 -- Groups, and the statements that change what symbols mean.
--- After Hobby, A User's Manual for MetaPost, sections 5 and 10, and Knuth, METAFONT: The Program, part 17.
+-- After Hobby, A User's Manual for MetaPost, sections 5 and 10, and Knuth, METAFONT: The Program, part 16.
 use Rattle.std.specs.Prelude.{ℕ, pos, List, [], ◌∷◌, ◌++◌, length, cond, nat_lt, codes}
 use Rattle.mp_symbols.specs.Tables.{Table}
 use Rattle.mp_symbols.specs.Groups as table

@@ -1,5 +1,5 @@
 -- The parts of names: how they are written, and what a subscript is.
--- After Knuth, METAFONT: The Program, parts 15 and 23, and The METAFONTbook, chapter 7; the brackets and the refusals are
+-- After Knuth, METAFONT: The Program, parts 15 and 40, and The METAFONTbook, chapter 7; the brackets and the refusals are
 -- this project's own.
 use Rattle.std.specs.Prelude.{ℕ, ℤ, pos, negsuc, Bool, true, false, List, [], ◌∷◌, ◌++◌, Option, Some, None, Ok, Err, length, nat_le, codes, if◌then◌else◌}
 use Rattle.mp_pool.specs.declared.Term.{Term}

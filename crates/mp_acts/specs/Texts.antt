@@ -1,5 +1,5 @@
 -- What is shown of a value.
--- After Knuth, METAFONT: The Program, parts 28 (dependency lists) and 42; the texts are this project's own.
+-- After Knuth, METAFONT: The Program, parts 28 (dependency lists) and 39; the texts are this project's own.
 use Rattle.std.specs.Prelude.{ℕ, ℤ, pos, negsuc, zero, suc, ◌++◌, List, [], ◌∷◌, Option, Some, None, Ok, Bool, true, false, codes, decimal, cond, nat_eq, unsigned_abs}
 use Rattle.mp_pool.specs.declared.Term.{Term}
 use Rattle.mp_scaled.specs.Round.{round}

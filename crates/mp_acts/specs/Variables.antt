@@ -1,5 +1,5 @@
 -- Variables: their roots, their declarations, how they are read, and what is assigned.
--- After Knuth, METAFONT: The Program, parts 15, 17 and 44; nameless unknowns, and slots in the place of rings, are this project's own.
+-- After Knuth, METAFONT: The Program, parts 15 and 43; nameless unknowns, and slots in the place of rings, are this project's own.
 use Rattle.std.specs.Prelude.{ℕ, pos, ◌-◌, Bool, true, false, cond, nat_le, ◌&&◌, List, [], ◌∷◌, ◌++◌, Option, Some, None, Result, Ok, Err, length, slice_set, codes}
 use Rattle.std.specs.List.{fold}
 use Rattle.mp_forms.specs.Forms.{LinearForm}

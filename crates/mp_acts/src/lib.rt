@@ -1,7 +1,8 @@
 //! What statements do: the state of a run apart from its text, and the acts that read and change it.
 //!
-//! The state has the symbols with their meanings, the variables with their declarations, the slots of those that are no
-//! numbers and have no value, the unknowns with the equations between them, and the lines that were shown. Each act is one public call, whose contract is the rule of the same name in specs/.
+//! The state has the symbols with their meanings, the variables with their declarations, the slots of those that are
+//! no numbers and have no value, the unknowns with the equations between them, and the lines that were shown. Each act
+//! is one public call, whose contract is the rule of the same name in specs/.
 #![tactic(auto)]
 
 mod arithmetic;

@@ -1,5 +1,5 @@
 -- The random words: 55 numbers below 2^28, renewed by taking words that stand apart from one another.
--- After Knuth, METAFONT: The Program, part 7 (random numbers). Every constant is this project's choice.
+-- After Knuth, METAFONT: The Program, part 8 (random numbers). Every constant is this project's choice.
 use Rattle.std.specs.Prelude.{ℕ, zero, suc, ◌+◌, ◌-◌, ◌*◌, ◌/◌, ◌%◌, List, true, false, nat_lt, cond, slice_set, slice_index, replicate}
 
 -- the words, and the place of the one that was answered last

@@ -3,7 +3,7 @@
 //! A scaled number is a whole number in units of 2^-16, a fraction one in units of 2^-28. Products and
 //! quotients are rounded to the nearest unit, a half away from zero; a result of magnitude 2^31 or more
 //! is an overflow. Decimal digits are read, and scaled numbers printed, so that what is printed reads
-//! back as itself (after Knuth, METAFONT: The Program, parts 6 and 7).
+//! back as itself (after Knuth, METAFONT: The Program, part 7).
 #![tactic(auto)]
 
 mod arith;

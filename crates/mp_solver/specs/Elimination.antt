@@ -1,5 +1,5 @@
 -- One equation, in a form that was brought up to date and is to be 0: which unknown it makes dependent, and on what.
--- After Knuth, METAFONT: The Program, part 29 (linear equations); the rule at a tie, the threshold and the refusals are this project's own.
+-- After Knuth, METAFONT: The Program, part 28 (linear_eq); the rule at a tie, the threshold and the refusals are this project's own.
 use Rattle.std.specs.Prelude.{◌≡◌, ◌≤◌, ◌<◌, ℕ, ◌-◌, ◌^◌, ℤ, pos, neg_ℤ, ◌+ℤ◌, unsigned_abs, List, [], ◌∷◌, Option, Some, None, Bool, not, cond, nat_eq, nat_lt, nat_le, map, filter, find, filter_map, option_map, sum_by, length, slice_set, Any, IsSomeAnd}
 use Rattle.std.specs.List.{list_any, best_of}
 use Rattle.mp_pool.specs.declared.Term.{Term}

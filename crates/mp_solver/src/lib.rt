@@ -3,7 +3,7 @@
 //! An unknown is independent, or it equals a linear form of independent ones. An equation, brought up to date,
 //! makes one of its unknowns dependent: the pivot, whose term has the greatest magnitude. Its new form then
 //! replaces it in every other form, so that the system is solved at any time (after Knuth, METAFONT: The
-//! Program, parts 28 and 29). The forms that hold an unknown are listed for it, so that an equation looks at
+//! Program, part 28). The forms that hold an unknown are listed for it, so that an equation looks at
 //! those that hold its pivot and at no others.
 #![tactic(auto)]
 

@@ -1,5 +1,5 @@
 -- What groups keep, and how it is undone.
--- After Knuth, METAFONT: The Program, part 17.
+-- After Knuth, METAFONT: The Program, part 16.
 use Rattle.std.specs.Prelude.{ℕ, ℤ, pos, Bool, true, false, List, [], ◌∷◌, unwrap_or, if◌then◌else◌, slice_get, slice_set, ◌<◌, length, ⊤}
 use Rattle.mp_symbols.specs.Names.{meaning_in, with_meaning}
 use Rattle.mp_symbols.specs.Tables.{Table, is_open}

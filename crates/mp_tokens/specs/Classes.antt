@@ -1,5 +1,5 @@
 -- The classes of characters.
--- After Knuth, METAFONT: The Program, part 6 (char_class); that tab and form feed are spaces is this project's own.
+-- After Knuth, METAFONT: The Program, part 12 (char_class); that tab and form feed are spaces is this project's own.
 use Rattle.std.specs.Prelude.{ℕ, Bool, false, ◌||◌, List, [], ◌∷◌, ◌==◌, codes, find, unwrap_or}
 use Rattle.std.specs.List.{list_any}
 use Rattle.std.specs.Char.{is_ascii_alphabetic, is_ascii_digit}

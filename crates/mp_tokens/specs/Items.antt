@@ -1,5 +1,5 @@
 -- The items of a file and of a string, and the tokens that stand for them.
--- After Knuth, METAFONT: The Program, part 6; the ends of lines and bad tokens as items are this project's own.
+-- After Knuth, METAFONT: The Program, part 33; the ends of lines and bad tokens as items are this project's own.
 use Rattle.std.specs.Prelude.{◌≡◌, ℕ, ℤ, ◌+◌, ◌-◌, ◌<◌, List, [], ◌∷◌, ◌++◌, length, take, drop, fold, map, unwrap_or, Result, Ok, Err, ⊤}
 use Rattle.std.specs.List.{flat_map}
 use Rattle.mp_scaled.specs.Decimal.{decimal_of}

@@ -3,7 +3,7 @@
 ghost use Rattle.std.specs.Prelude.{◌≡◌};
 ghost use Rattle.mp_tokens.specs.Classes.{class_of, has};
 
-/// The class of a byte (Knuth, METAFONT: The Program, part 6).
+/// The class of a byte (Knuth, METAFONT: The Program, part 12).
 #[derive(Clone, Copy, Debug)]
 pub(crate) enum Class {
     Letters,

@@ -1,5 +1,5 @@
 -- The angle of a direction, by turns whose tangents are powers of 1/2.
--- After Knuth, METAFONT: The Program, part 7 (subroutines for math). Every constant is this project's choice.
+-- After Knuth, METAFONT: The Program, part 8 (algebraic and transcendental functions). Every constant is this project's choice.
 use Rattle.std.specs.Prelude.{ℕ, zero, suc, ◌+◌, ◌-◌, ◌*◌, ◌/◌, ◌^◌, ℤ, pos, neg_ℤ, ◌-ℤ◌, int_lt, unsigned_abs, nat_eq, nat_lt, Bool, true, false, ◌&&◌, cond, Result, Ok, Err}
 use Rattle.mp_trig.specs.Sines.{angle_entry}
 use Rattle.mp_trig.specs.declared.fault.TrigFault.{TrigFault}

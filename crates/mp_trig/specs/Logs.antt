@@ -1,5 +1,5 @@
 -- Natural logarithms of scaled numbers, and exponentials, by products with numbers 1 - 2^-k.
--- After Knuth, METAFONT: The Program, part 7 (subroutines for math). Every constant is this project's choice.
+-- After Knuth, METAFONT: The Program, part 8 (algebraic and transcendental functions). Every constant is this project's choice.
 use Rattle.std.specs.Prelude.{ℕ, zero, suc, ◌+◌, ◌-◌, ◌*◌, ◌/◌, ◌%◌, ◌^◌, ℤ, pos, neg_ℤ, ◌+ℤ◌, ◌-ℤ◌, int_lt, int_le, int_div, unsigned_abs, nat_lt, true, false, cond, List, [], ◌∷◌, slice_index, Result, Ok, Err}
 use Rattle.mp_trig.specs.declared.fault.TrigFault.{TrigFault}
 use Rattle.mp_trig.specs.declared.fault.TrigFault.TheVariants.{OutOfDomain, Overflow}

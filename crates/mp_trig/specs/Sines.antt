@@ -1,5 +1,5 @@
 -- Sines and cosines, by turns whose tangents are powers of 1/2.
--- After Knuth, METAFONT: The Program, part 7 (subroutines for math). Every constant is this project's choice.
+-- After Knuth, METAFONT: The Program, part 8 (algebraic and transcendental functions). Every constant is this project's choice.
 use Rattle.std.specs.Prelude.{ℕ, zero, suc, ◌+◌, ◌-◌, ◌/◌, ◌%◌, ◌^◌, ◌≤◌, ℤ, pos, neg_ℤ, ◌+ℤ◌, ◌-ℤ◌, ◌*ℤ◌, ◌≤ℤ◌, int_lt, int_div, unsigned_abs, nat_eq, nat_le, cond, List, [], ◌∷◌, slice_index}
 use Rattle.std.specs.Int.{int_rem_euclid}
 use Rattle.mp_scaled.specs.Round.{round}

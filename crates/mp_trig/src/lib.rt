@@ -2,7 +2,7 @@
 //!
 //! A scaled number is in units of 2^-16, a fraction in units of 2^-28, an angle in units of 2^-20
 //! degree. Roots are the nearest whole numbers of units; the other functions are short recurrences
-//! over a table (after Knuth, METAFONT: The Program, part 7). Every constant is this project's choice.
+//! over a table (after Knuth, METAFONT: The Program, part 8). Every constant is this project's choice.
 #![tactic(auto)]
 
 mod directions;
