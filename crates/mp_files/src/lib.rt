@@ -16,8 +16,6 @@ mod outside;
 mod real;
 mod room;
 mod sure_files;
-#[cfg(test)]
-mod tests;
 
 pub use memory_files::MemoryFiles;
 pub use memory_shelf::MemoryShelf;

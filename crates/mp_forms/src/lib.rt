@@ -10,8 +10,6 @@ mod fault;
 mod form;
 mod ratio;
 mod terms;
-#[cfg(test)]
-mod tests;
 
 pub use fault::FormFault;
 pub use form::Form;

@@ -12,5 +12,3 @@ pub use error::{Cap, SourceError};
 pub use line::write_error;
 pub use place::Place;
 
-#[cfg(test)]
-mod tests;

@@ -15,8 +15,6 @@ mod replay;
 mod solution;
 mod state;
 mod system;
-#[cfg(test)]
-mod tests;
 mod view;
 
 pub use equated::Equated;

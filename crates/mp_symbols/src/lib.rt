@@ -10,8 +10,6 @@ mod closed;
 mod laws;
 mod saved;
 mod symbols;
-#[cfg(test)]
-mod tests;
 
 pub use closed::Closed;
 pub use laws::{groups_give_back, numbers_are_for_good};

@@ -20,5 +20,3 @@ pub use fresh::FreshMeaning;
 pub use items::{items_of_file, items_of_string};
 pub use token::{BadToken, Token, Tokens};
 
-#[cfg(test)]
-mod tests;

@@ -12,8 +12,6 @@ mod quotient;
 mod roots;
 mod sines;
 mod table;
-#[cfg(test)]
-mod tests;
 
 pub use directions::angle_of;
 pub use fault::TrigFault;

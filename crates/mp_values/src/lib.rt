@@ -19,5 +19,3 @@ pub use stop::Stop;
 pub use value::{Kind, Value};
 pub use word::{Command, Word};
 
-#[cfg(test)]
-mod tests;

@@ -17,8 +17,6 @@ mod pattern_tree;
 mod serials;
 mod shapes;
 mod tag;
-#[cfg(test)]
-mod tests;
 mod vars;
 
 pub use answers::{BadDeclaration, Found, WrongType};

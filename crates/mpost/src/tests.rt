@@ -1,7 +1,7 @@
 //! Rows of sources and command lines with what they give, by the objects in memory.
 
 use crate::deliver::{Delivered, deliver};
-use crate::top::{End, Report, mpost_main};
+use crate::top::mpost_main;
 use mp_eval::Figure;
 use mp_files::{Contents, FailAt, Kept, MemoryFiles, MemoryShelf, MemorySink, NullShelf, Sources};
 use mp_scaled::{Bytes, Listing, NoMemory};
@@ -27,24 +27,25 @@ fn words(alloc: Global, line: &str) -> Result<Vec<String>, AllocError> {
     Ok(words)
 }
 
-/// What a call left: its report, and what the sink holds.
+/// What a call left: what the sink holds, and of the report what is compared.
 #[derive(Drop)]
 struct Left {
-    report: Report,
-    sink: MemorySink,
-    files: MemoryFiles,
+    written: Bytes,
+    status: u8,
+    steps: u64,
+    fetches: usize,
 }
 
 /// Runs a command line over one file `a.mp`, with the fetches and the writes that fail.
 fn run_with(
     alloc: Global,
     line: &str,
-    text: &[u8],
+    text: &str,
     reads: &[u32],
     writes: &[FailAt],
 ) -> Result<Left, Fail> {
     let words = words(alloc, line)?;
-    let mut files = MemoryFiles::new(alloc, sources(alloc, b"a.mp", text)?, reads)?;
+    let mut files = MemoryFiles::new(alloc, sources(alloc, b"a.mp", text.as_bytes())?, reads)?;
     let mut sink = MemorySink::new(alloc, ROOM, writes)?;
     let report = mpost_main(
         alloc,
@@ -54,10 +55,15 @@ fn run_with(
         &mut sink,
     );
     Ok(Left {
-        report,
-        sink,
-        files,
+        written: Bytes::copy_of(alloc, sink.as_slice())?,
+        status: report.status,
+        steps: report.steps,
+        fetches: files.asked().len(),
     })
+}
+
+fn run_text(alloc: Global, text: &str) -> Result<Left, Fail> {
+    run_with(alloc, "--bare a.mp", text, &[], &[])
 }
 
 /// A source text, what is written and the status.
@@ -220,9 +226,9 @@ const TEXTS: [(&str, &str, u8); 50] = [
 
 fn expect_texts(rt: &impl Abort, alloc: Global, rows: &[(&str, &str, u8)]) -> Result<(), Fail> {
     for (text, wanted, status) in rows {
-        let left = run_with(alloc, "--bare a.mp", text.as_bytes(), &[], &[])?;
-        assert_eq!(rt; left.sink.as_slice(), wanted.as_bytes(), "{text}");
-        assert_eq!(rt; left.report.status, *status, "{text}");
+        let left = run_text(alloc, text)?;
+        assert_eq!(rt; left.written.as_slice(), wanted.as_bytes(), "{text}");
+        assert_eq!(rt; left.status, *status, "{text}");
     }
     Ok(())
 }
@@ -367,120 +373,117 @@ const STEPS: [(&str, u64); 11] = [
 #[test]
 fn items_are_counted(rt: HostRuntime) -> Result<(), Fail> {
     for (text, steps) in STEPS {
-        let left = run_with(rt.alloc(), "--bare a.mp", text.as_bytes(), &[], &[])?;
-        assert_eq!(rt; left.report.steps, steps, "{text}");
+        assert_eq!(rt; run_text(rt.alloc(), text)?.steps, steps, "{text}");
     }
     Ok(())
 }
 
-/// A piece so many times, between two others.
+/// What stands first, a piece and how often it follows, what stands last, and how what is written ends.
+type Repeated = (
+    &'static str,
+    &'static str,
+    usize,
+    &'static str,
+    &'static str,
+);
+
+/// Names have 50 parts, strings and texts 65536 bytes.
+const LONG: [Repeated; 12] = [
+    (
+        "show a",
+        ".b",
+        51,
+        ";\n",
+        "a.mp:1: error 28 Limit Suffix 50\n",
+    ),
+    (
+        "show str a",
+        ".b",
+        50,
+        ";\n",
+        "a.mp:1: error 28 Limit Suffix 50\n",
+    ),
+    (
+        "numeric a",
+        "[]",
+        51,
+        ";\n",
+        "a.mp:1: error 28 Limit Suffix 50\n",
+    ),
+    ("a", "[1]", 50, "=7; show 2;\n", ">> 2\n"),
+    (
+        "b=-32767.99998; show str ",
+        "a",
+        65472,
+        "[b][b][b][b][b][b][b]",
+        "a.mp:1: error 28 Limit Text 65536\n",
+    ),
+    (
+        "b=-32767.99998; show str ",
+        "a",
+        65438,
+        "[b][b][b][b][b][b][b]",
+        "[-32767.99998]\"\n",
+    ),
+    (";", "show 1;", 9362, "", ">> 1\n"),
+    ("show 0", "+.5", 21843, "", ">> 10921.5\n"),
+    ("show 1", ",1", 32765, "", ">> 1\n"),
+    ("x", "=x", 32767, "", "## redundant 0\n"),
+    ("save y", ",y", 32761, ";show 2", ">> 2\n"),
+    ("", ";;", 32768, ";", "mpost:0: error 29 NotBuilt long\n"),
+];
+
 fn repeated(
     alloc: Global,
     first: &str,
     piece: &str,
-    times: u32,
+    times: usize,
     last: &str,
-) -> Result<Vec<u8>, AllocError> {
-    let mut text = Vec::from_slice(alloc, first.as_bytes())?;
-    for _ in 0..times {
-        text.extend_from_slice(piece.as_bytes())?;
-    }
-    text.extend_from_slice(last.as_bytes())?;
-    Ok(text)
-}
-
-/// A piece so many times before a 1, and another as often behind it.
-fn nested(
-    alloc: Global,
-    first: &str,
-    open: &str,
-    depth: u32,
-    close: &str,
-) -> Result<Vec<u8>, AllocError> {
-    let mut text = repeated(alloc, first, open, depth, "1")?;
-    for _ in 0..depth {
-        text.extend_from_slice(close.as_bytes())?;
-    }
-    text.extend_from_slice(b";\n")?;
-    Ok(text)
+) -> Result<String, AllocError> {
+    let pieces = piece.repeat(alloc, times)?;
+    format!(in alloc; "{first}{pieces}{last}")
 }
 
 #[test]
-fn names_have_fifty_parts(rt: HostRuntime) -> Result<(), Fail> {
-    let alloc = rt.alloc();
-    let rows: [(&str, &str, u32, &str, &str); 6] = [
-        (
-            "show a",
-            ".b",
-            51,
-            ";\n",
-            "a.mp:1: error 28 Limit Suffix 50\n",
-        ),
-        (
-            "show str a",
-            ".b",
-            50,
-            ";\n",
-            "a.mp:1: error 28 Limit Suffix 50\n",
-        ),
-        (
-            "numeric a",
-            "[]",
-            51,
-            ";\n",
-            "a.mp:1: error 28 Limit Suffix 50\n",
-        ),
-        ("a", "[1]", 50, "=7; show 2;\n", ">> 2\n"),
-        (
-            "b=-32767.99998; show str ",
-            "a",
-            65472,
-            "[b][b][b][b][b][b][b]",
-            "a.mp:1: error 28 Limit Text 65536\n",
-        ),
-        (
-            "b=-32767.99998; show str ",
-            "a",
-            65438,
-            "[b][b][b][b][b][b][b]",
-            "[-32767.99998]\"\n",
-        ),
-    ];
-    for (first, piece, times, last, wanted) in rows {
-        let text = repeated(alloc, first, piece, times, last)?;
-        let left = run_with(alloc, "--bare a.mp", text.as_slice(), &[], &[])?;
+fn long_texts_end_so(rt: HostRuntime) -> Result<(), Fail> {
+    for (first, piece, times, last, wanted) in LONG {
+        let text = repeated(rt.alloc(), first, piece, times, last)?;
+        let left = run_text(rt.alloc(), text.as_str())?;
         assert!(rt;
-            left.sink.as_slice().ends_with(wanted.as_bytes()),
-            "{first}"
+            left.written.as_slice().ends_with(wanted.as_bytes()),
+            "{first}{piece}"
         );
     }
     Ok(())
 }
 
+/// What stands first, so many pieces before a 1 and so many behind it, and what is written.
+const NESTED: [Repeated; 4] = [
+    ("show ", "(", 99, ")", ">> 1\n"),
+    (
+        "show ",
+        "(",
+        100,
+        ")",
+        "a.mp:1: error 28 Limit Nesting 100\n",
+    ),
+    ("x1=1; show ", "x[", 99, " ]", ">> 1\n"),
+    (
+        "x1=1; show ",
+        "x[",
+        100,
+        " ]",
+        "a.mp:1: error 28 Limit Nesting 100\n",
+    ),
+];
+
 #[test]
 fn primaries_nest_a_hundred_deep(rt: HostRuntime) -> Result<(), Fail> {
-    let rows: [(&str, &str, u32, &str, &str); 4] = [
-        ("show ", "(", 99, ")", ">> 1\n"),
-        (
-            "show ",
-            "(",
-            100,
-            ")",
-            "a.mp:1: error 28 Limit Nesting 100\n",
-        ),
-        ("x1=1; show ", "x[", 99, " ]", ">> 1\n"),
-        (
-            "x1=1; show ",
-            "x[",
-            100,
-            " ]",
-            "a.mp:1: error 28 Limit Nesting 100\n",
-        ),
-    ];
-    for (first, open, depth, close, wanted) in rows {
-        let text = nested(rt.alloc(), first, open, depth, close)?;
-        let left = run_with(rt.alloc(), "--bare a.mp", text.as_slice(), &[], &[])?;
-        assert_eq!(rt; left.sink.as_slice(), wanted.as_bytes());
+    for (first, open, depth, close, wanted) in NESTED {
+        let opened = repeated(rt.alloc(), first, open, depth, "1")?;
+        let text = repeated(rt.alloc(), opened.as_str(), close, depth, ";\n")?;
+        let left = run_text(rt.alloc(), text.as_str())?;
+        assert_eq!(rt; left.written.as_slice(), wanted.as_bytes());
     }
     Ok(())
 }
@@ -508,11 +511,11 @@ const LINES: [(&str, &str, u8); 9] = [
 
 fn expect_lines(rt: &impl Abort, alloc: Global, rows: &[(&str, &str, u8)]) -> Result<(), Fail> {
     for (line, wanted, status) in rows {
-        let left = run_with(alloc, line, b"show 1;end", &[], &[])?;
-        assert_eq!(rt; left.sink.as_slice(), wanted.as_bytes(), "{line}");
-        assert_eq!(rt; left.report.status, *status, "{line}");
-        let fetched = if *status == 2 { 0 } else { 1 };
-        assert_eq!(rt; left.files.asked().len(), fetched, "{line}");
+        let left = run_with(alloc, line, "show 1;end", &[], &[])?;
+        assert_eq!(rt; left.written.as_slice(), wanted.as_bytes(), "{line}");
+        assert_eq!(rt; left.status, *status, "{line}");
+        let fetches = if *status == 2 { 0 } else { 1 };
+        assert_eq!(rt; left.fetches, fetches, "{line}");
     }
     Ok(())
 }
@@ -579,9 +582,14 @@ const FAULTS: [Fault; 6] = [
 
 fn expect_faults(rt: &impl Abort, alloc: Global, rows: &[Fault]) -> Result<(), Fail> {
     for row in rows {
-        let left = run_with(alloc, row.line, b"show 1;end", &[row.read], &[row.write])?;
-        assert_eq!(rt; left.sink.as_slice(), row.wanted.as_bytes(), "{}", row.line);
-        assert_eq!(rt; left.report.status, row.status, "{}", row.line);
+        let left = run_with(alloc, row.line, "show 1;end", &[row.read], &[row.write])?;
+        assert_eq!(rt;
+            left.written.as_slice(),
+            row.wanted.as_bytes(),
+            "{}",
+            row.line
+        );
+        assert_eq!(rt; left.status, row.status, "{}", row.line);
     }
     Ok(())
 }
@@ -608,53 +616,5 @@ fn a_figure_that_fails_ends_the_writing(rt: HostRuntime) -> Result<(), Fail> {
     assert_eq!(rt; at, Delivered::PutFailed);
     assert_eq!(rt; shelf.len(), 1);
     assert_eq!(rt; sink.as_slice(), b">> 1\nmpost: write fault\n".as_slice());
-    Ok(())
-}
-
-/// A text of `first`, then `more` again and again, up to 65536 bytes.
-fn long_text(alloc: Global, first: &[u8], more: &[u8]) -> Result<Vec<u8>, AllocError> {
-    let mut text = Vec::from_slice(alloc, first)?;
-    for _ in 0..65536u32 {
-        if text.len() + more.len() > 65536 {
-            break;
-        }
-        text.extend_from_slice(more)?;
-    }
-    Ok(text)
-}
-
-/// What is written at the end of a run over a first piece and a second again and again.
-fn expect_long(
-    rt: &impl Abort,
-    alloc: Global,
-    first: &str,
-    more: &str,
-    last: &str,
-) -> Result<(), Fail> {
-    let text = long_text(alloc, first.as_bytes(), more.as_bytes())?;
-    let left = run_with(alloc, "--bare a.mp", text.as_slice(), &[], &[])?;
-    assert!(rt; left.sink.as_slice().ends_with(last.as_bytes()), "{more}");
-    Ok(())
-}
-
-#[test]
-fn long_texts_are_read(rt: HostRuntime) -> Result<(), Fail> {
-    expect_long(&rt, rt.alloc(), ";", "show 1;", ">> 1\n")?;
-    expect_long(&rt, rt.alloc(), "show 0", "+.5", ">> 10921.5\n")?;
-    expect_long(&rt, rt.alloc(), "show 1", ",1", ">> 1\n")?;
-    expect_long(&rt, rt.alloc(), "x", "=x", "## redundant 0\n")?;
-    expect_long(&rt, rt.alloc(), "save y", ",y", "")
-}
-
-#[test]
-fn a_longer_text_is_not_built(rt: HostRuntime) -> Result<(), Fail> {
-    let mut text = long_text(rt.alloc(), b"", b";;")?;
-    text.push(b';')?;
-    let left = run_with(rt.alloc(), "--bare a.mp", text.as_slice(), &[], &[])?;
-    assert_eq!(rt;
-        left.sink.as_slice(),
-        b"mpost:0: error 29 NotBuilt long\n".as_slice()
-    );
-    assert!(rt; matches!(&left.report.end, End::Source(_, _)));
     Ok(())
 }

@@ -1,6 +1,6 @@
 ghost use Rattle.std.specs.Prelude.{◌≡◌, ◌<◌, length, OnOk};
 
-use crate::{Closed, Symbols, groups_give_back, numbers_are_for_good};
+use mp_symbols::{Closed, Symbols, groups_give_back, numbers_are_for_good};
 use std::alloc::Global;
 use std::test::Fail;
 

@@ -1,10 +1,10 @@
-use crate::{
-    BadDeclaration, Found, Level, Macro, Part, Serials, Shape, Vars, WrongType,
-    one_pattern_matches, variables_are_a_map,
-};
 use mp_forms::Form;
 use mp_scaled::{Listing, Shared, SharedSlice};
 use mp_values::{Kind, Value};
+use mp_vartree::{
+    BadDeclaration, Found, Level, Macro, Part, Shape, Vars, WrongType, one_pattern_matches,
+    variables_are_a_map,
+};
 use std::alloc::Global;
 use std::test::Fail;
 
@@ -128,8 +128,8 @@ const PB: Shape = Shape::Sym(6);
 
 const ANY: Shape = Shape::Any;
 
-/// Calls one after another on the same variables.
-const CALLS: [Call; 60] = [
+/// Calls one after another on the same variables. The test fails with the number of a row, counted from 0.
+const CALLS: [Call; 75] = [
     // nothing is known
     Call::Nothing(0, &[]),
     Call::Type(0, &[A], None),
@@ -197,6 +197,22 @@ const CALLS: [Call; 60] = [
     Call::Forget(0),
     Call::Nothing(0, &[ONE, B]),
     Call::Made(1, &[], true, &[1]),
+    // names of 50 parts
+    Call::Declare(2, &[PA; 50], Kind::Numeric, true),
+    Call::Type(2, &[A; 50], Some(Kind::Numeric)),
+    Call::Type(2, &[A; 49], None),
+    Call::StoreMade(2, &[A; 50], Plain::Unknown(50), true),
+    Call::StoreMade(2, &[ONE; 49], Plain::Unknown(49), true),
+    Call::StoreMade(2, &[ONE; 50], Plain::Unknown(51), true),
+    Call::MadeAt(2, &[A; 50], &[50]),
+    Call::Made(2, &[ANY; 50], false, &[51]),
+    Call::Made(2, &[ANY; 49], true, &[49, 51]),
+    Call::Made(2, &[PA; 25], true, &[50]),
+    Call::Define(2, &[ANY; 50], true),
+    Call::Macro(2, &[ONE; 50], 50),
+    Call::Define(2, &[PA; 25], true),
+    Call::Macro(2, &[A; 50], 25),
+    Call::Made(2, &[], true, &[49]),
 ];
 
 #[test]
@@ -204,7 +220,9 @@ fn calls_one_after_another(rt: HostRuntime) -> Result<(), Fail> {
     let alloc = rt.alloc();
     let mut vars = Vars::new(alloc);
     for (row, call) in CALLS.iter().enumerate() {
-        assert!(rt; answers(alloc, &mut vars, *call)?, "row {row}");
+        if !answers(alloc, &mut vars, *call)? {
+            return Err(Fail::new(row));
+        }
     }
     vars.stand_once();
     Ok(())
@@ -213,55 +231,8 @@ fn calls_one_after_another(rt: HostRuntime) -> Result<(), Fail> {
 #[test]
 fn roots_count_from_0(rt: HostRuntime) -> Result<(), Fail> {
     let mut vars = Vars::new(rt.alloc());
-    for root in 0..3 {
-        assert_eq!(rt; vars.new_root()?, root);
-    }
-    Ok(())
-}
-
-/// A name of so many parts, symbols and subscripts in turn, and its pattern.
-fn long_name(alloc: Global, parts: u32) -> Result<(Vec<Part>, Vec<Shape>), Fail> {
-    let (mut name, mut pattern) = (Vec::new(alloc), Vec::new(alloc));
-    for k in 0..parts {
-        let part = if k % 2 == 0 {
-            Part::Sym(k)
-        } else {
-            Part::Sub(-65536)
-        };
-        name.push(part)?;
-        pattern.push(Shape::of(part))?;
-    }
-    Ok((name, pattern))
-}
-
-#[test]
-fn names_of_0_to_50_parts(rt: HostRuntime) -> Result<(), Fail> {
-    let alloc = rt.alloc();
-    let mut vars = Vars::new(alloc);
-    for parts in 0..51 {
-        let (name, pattern) = long_name(alloc, parts)?;
-        assert_eq!(rt; vars.declare(2, &pattern, Kind::Numeric)?, Ok(()));
-        assert_eq!(rt;
-            vars.store_made(2, &name, Value::Numeric(Form::unknown(alloc, parts,)?))?,
-            Ok(())
-        );
-    }
-    for parts in 0..51 {
-        let (name, pattern) = long_name(alloc, parts)?;
-        assert_eq!(rt; vars.type_of(2, &name), Some(Kind::Numeric));
-        assert_eq!(rt;
-            vars.made_at(alloc, 2, &name)?.as_slice(),
-            [parts].as_slice()
-        );
-        let below: Serials = vars.made(alloc, 2, &pattern, true)?;
-        assert_eq!(rt; below.as_slice().len(), (51 - parts) as usize);
-    }
-    let (name, pattern) = long_name(alloc, 25)?;
-    assert_eq!(rt; vars.define_macro(2, &pattern, macro_of(alloc)?)?, Ok(()));
-    assert_eq!(rt; vars.made(alloc, 2, &[], true)?.as_slice().len(), 25);
-    let (longest, _) = long_name(alloc, 50)?;
-    assert!(rt; is_macro(&vars.find(alloc, 2, &longest)?, 25));
-    assert!(rt; is_macro(&vars.find(alloc, 2, &name)?, 25));
+    let (first, second) = (vars.new_root()?, vars.new_root()?);
+    assert!(rt; first == 0 && second == 1);
     Ok(())
 }
 

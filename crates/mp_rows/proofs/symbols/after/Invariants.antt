@@ -1,5 +1,5 @@
 use Rattle.std.proofs.Common.{◌<◌, length}
-use Rattle.mp_symbols.proofs.tests.after.Given as goal
+use Rattle.mp_rows.proofs.symbols.after.Given as goal
 
 -- the internal is there
 abbrev pub invariant-calls : goal.invariant-calls

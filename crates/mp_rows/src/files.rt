@@ -1,4 +1,4 @@
-use crate::{
+use mp_files::{
     Contents, FailAt, Fetched, Files, Kept, MOST_FETCHED, MemoryFiles, MemoryShelf, MemorySink,
     NullShelf, NullSink, RealFiles, RealShelf, Shelf, Sink, Sources, Stored, SureFiles, WriterSink,
     Written,

@@ -1,5 +1,5 @@
-use crate::{Equated, Fresh, State, System};
 use mp_forms::Form;
+use mp_solver::{Equated, Fresh, State, System};
 use std::alloc::Global;
 use std::test::Fail;
 

@@ -1,0 +1,158 @@
+use mp_forms::{Form, FormFault};
+use mp_scaled::{Arith, NoMemory, SharedSlice};
+use mp_tokens::{BadToken, FreshMeaning, Token};
+use mp_values::{Command, Item, Meaning, Scaled, Stop, UnbuiltWord, Value, Word};
+use std::alloc::Global;
+use std::fmt::Debug;
+use std::test::Fail;
+
+fn text(alloc: Global) -> Result<SharedSlice<u8>, Fail> {
+    Ok(SharedSlice::from_vec(Vec::from_slice(alloc, b"ab")?)?)
+}
+
+/// Fails with the first text that is not what its value shows.
+fn all_show<D: Debug>(alloc: Global, rows: &[(D, &'static str)]) -> Result<(), Fail> {
+    for (value, want) in rows {
+        if format!(in alloc; "{value:?}")?.as_str() != *want {
+            return Err(Fail::new(*want));
+        }
+    }
+    Ok(())
+}
+
+// Contracts say that a copy is equal; here there is memory for each.
+#[test]
+fn copies_of_values(rt: HostRuntime) -> Result<(), Fail> {
+    let alloc = rt.alloc();
+    let _ = Value::Boolean(true).copy(alloc)?;
+    let _ = Value::Numeric(Form::unknown(alloc, 7)?).copy(alloc)?;
+    let _ = Value::Text(text(alloc)?).copy(alloc)?;
+    Ok(())
+}
+
+#[test]
+fn items(rt: HostRuntime) -> Result<(), Fail> {
+    all_show(
+        rt.alloc(),
+        &[
+            (Item::of(2, &Token::Sym(9)), "Ok(Symbol(9))"),
+            (
+                Item::of(2, &Token::Num(65536)),
+                "Ok(Number(Scaled { units: 65536 }))",
+            ),
+            (
+                Item::of(2, &Token::Bad(BadToken::Unfinished)),
+                "Ok(Bad(Unfinished))",
+            ),
+            (
+                Item::of(2, &Token::LineEnd(4)),
+                "Ok(LineEnd(Place { file: 2, line: 4 }))",
+            ),
+        ],
+    )
+}
+
+#[test]
+fn an_item_with_text(rt: HostRuntime) -> Result<(), Fail> {
+    match Item::of(2, &Token::Text(text(rt.alloc())?))? {
+        Item::Text(bytes) if bytes.as_slice() == b"ab".as_slice() => Ok(()),
+        _ => Err(Fail::new("no text")),
+    }
+}
+
+const NAMES: [&[u8]; 30] = [
+    b"+",
+    b"-",
+    b"*",
+    b"/",
+    b",",
+    b";",
+    b"=",
+    b":=",
+    b"[",
+    b"]",
+    b"str",
+    b"begingroup",
+    b"endgroup",
+    b"end",
+    b"show",
+    b"save",
+    b"interim",
+    b"let",
+    b"delimiters",
+    b"newinternal",
+    b"message",
+    b"errmessage",
+    b"errhelp",
+    b"batchmode",
+    b"scrollmode",
+    b"nonstopmode",
+    b"errorstopmode",
+    b"boolean",
+    b"numeric",
+    b"string",
+];
+
+#[test]
+fn words(_rt: HostRuntime) -> Result<(), Fail> {
+    for (word, name) in Word::ALL.iter().zip(NAMES.iter()) {
+        if word.name() != *name {
+            return Err(Fail::new("the name of a word"));
+        }
+    }
+    Ok(())
+}
+
+#[test]
+fn stops_with_texts(rt: HostRuntime) -> Result<(), Fail> {
+    let alloc = rt.alloc();
+    all_show(
+        alloc,
+        &[
+            (
+                Stop::not_built(alloc, b"a"),
+                "Refused(NotBuilt(Bytes { inner: [97] }))",
+            ),
+            (
+                Stop::unexpected(alloc, b"a", b"b"),
+                "Refused(Unexpected(Bytes { inner: [97] }, Bytes { inner: [98] }))",
+            ),
+            (
+                Stop::wrong_type(alloc, b"a"),
+                "Refused(WrongType(Bytes { inner: [97] }))",
+            ),
+            (
+                Stop::not_known(alloc, b"a"),
+                "Refused(NotKnown(Bytes { inner: [97] }))",
+            ),
+        ],
+    )
+}
+
+#[test]
+fn stops_of_faults(rt: HostRuntime) -> Result<(), Fail> {
+    all_show(
+        rt.alloc(),
+        &[
+            (Stop::from(NoMemory), "NoMemory"),
+            (Stop::from(Arith::DivisionByZero), "Refused(DivisionByZero)"),
+            (
+                Stop::from(FormFault::CoefficientTooLarge),
+                "Refused(CoefficientTooLarge)",
+            ),
+            (
+                Stop::from(BadToken::Character(7)),
+                "Refused(BadCharacter(7))",
+            ),
+        ],
+    )
+}
+
+// These take no memory, and their contracts say all that they answer.
+#[test]
+fn small_calls(rt: HostRuntime) {
+    assert!(rt; UnbuiltWord::new(b"pair").name() == b"pair".as_slice());
+    assert!(rt; matches!(&Meaning::fresh().copy(), Meaning::NewTag));
+    assert!(rt; Command::Show.name() == b"show".as_slice());
+    assert!(rt; Scaled::new(-5).units() == -5);
+}
