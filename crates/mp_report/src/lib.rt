@@ -11,4 +11,3 @@ mod place;
 pub use error::{Cap, SourceError};
 pub use line::write_error;
 pub use place::Place;
-

@@ -19,4 +19,3 @@ mod token;
 pub use fresh::FreshMeaning;
 pub use items::{items_of_file, items_of_string};
 pub use token::{BadToken, Token, Tokens};
-

@@ -18,4 +18,3 @@ pub use scaled::Scaled;
 pub use stop::Stop;
 pub use value::{Kind, Value};
 pub use word::{Command, Word};
-
