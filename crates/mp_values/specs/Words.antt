@@ -1,9 +1,21 @@
--- The names of the words that are built.
-use Rattle.std.specs.Prelude.{ℕ, List, codes}
+-- The words that are built: their names, and what they are as operators.
+use Rattle.std.specs.Prelude.{ℕ, List, [], ◌∷◌, Option, Some, None, codes}
 use Rattle.mp_values.specs.declared.value.Kind.{Kind}
 use Rattle.mp_values.specs.declared.value.Kind.TheVariants as kind
 use Rattle.mp_values.specs.declared.word.Command.{Command}
 use Rattle.mp_values.specs.declared.word.Command.TheVariants as command
+use Rattle.mp_values.specs.declared.word.SymbolCommand.{SymbolCommand}
+use Rattle.mp_values.specs.declared.word.SymbolCommand.TheVariants as symbol_command
+use Rattle.mp_values.specs.declared.word.Speech.{Speech}
+use Rattle.mp_values.specs.declared.word.Speech.TheVariants as speech
+use Rattle.mp_values.specs.declared.word.Mode.{Mode}
+use Rattle.mp_values.specs.declared.word.Mode.TheVariants as mode
+use Rattle.mp_values.specs.declared.word.Unary.{Unary}
+use Rattle.mp_values.specs.declared.word.Unary.TheVariants as unary
+use Rattle.mp_values.specs.declared.word.Secondary.{Secondary}
+use Rattle.mp_values.specs.declared.word.Secondary.TheVariants as secondary
+use Rattle.mp_values.specs.declared.word.Tertiary.{Tertiary}
+use Rattle.mp_values.specs.declared.word.Tertiary.TheVariants as tertiary
 use Rattle.mp_values.specs.declared.word.Word.{Word}
 use Rattle.mp_values.specs.declared.word.Word.TheVariants as word
 
@@ -13,27 +25,46 @@ name_of_kind kind.Boolean = codes "boolean"
 name_of_kind kind.Numeric = codes "numeric"
 name_of_kind kind.Text = codes "string"
 
+abbrev pub name_of_symbol_command : SymbolCommand → List ℕ
+name_of_symbol_command symbol_command.Save = codes "save"
+name_of_symbol_command symbol_command.Newinternal = codes "newinternal"
+
+abbrev pub name_of_speech : Speech → List ℕ
+name_of_speech speech.Message = codes "message"
+name_of_speech speech.Errmessage = codes "errmessage"
+name_of_speech speech.Errhelp = codes "errhelp"
+
+abbrev pub name_of_mode : Mode → List ℕ
+name_of_mode mode.Batch = codes "batchmode"
+name_of_mode mode.Scroll = codes "scrollmode"
+name_of_mode mode.Nonstop = codes "nonstopmode"
+name_of_mode mode.Errorstop = codes "errorstopmode"
+
 abbrev pub name_of_command : Command → List ℕ
 name_of_command command.Show = codes "show"
-name_of_command command.Save = codes "save"
+name_of_command (command.Symbols c) = name_of_symbol_command c
 name_of_command command.Interim = codes "interim"
 name_of_command command.Let = codes "let"
 name_of_command command.Delimiters = codes "delimiters"
-name_of_command command.Newinternal = codes "newinternal"
-name_of_command command.Message = codes "message"
-name_of_command command.Errmessage = codes "errmessage"
-name_of_command command.Errhelp = codes "errhelp"
-name_of_command command.Batchmode = codes "batchmode"
-name_of_command command.Scrollmode = codes "scrollmode"
-name_of_command command.Nonstopmode = codes "nonstopmode"
-name_of_command command.Errorstopmode = codes "errorstopmode"
+name_of_command (command.Speech s) = name_of_speech s
+name_of_command (command.Mode m) = name_of_mode m
 name_of_command (command.Type kind) = name_of_kind kind
 
+abbrev pub name_of_unary : Unary → List ℕ
+name_of_unary unary.Plus = codes "+"
+name_of_unary unary.Minus = codes "-"
+
+abbrev pub name_of_secondary : Secondary → List ℕ
+name_of_secondary secondary.Times = codes "*"
+name_of_secondary secondary.Over = codes "/"
+
+abbrev pub name_of_tertiary : Tertiary → List ℕ
+name_of_tertiary tertiary.Plus = codes "+"
+name_of_tertiary tertiary.Minus = codes "-"
+
 abbrev pub name_of_word : Word → List ℕ
-name_of_word word.Plus = codes "+"
-name_of_word word.Minus = codes "-"
-name_of_word word.Times = codes "*"
-name_of_word word.Slash = codes "/"
+name_of_word (word.Secondary op) = name_of_secondary op
+name_of_word (word.Tertiary op) = name_of_tertiary op
 name_of_word word.Comma = codes ","
 name_of_word word.Semicolon = codes ";"
 name_of_word word.Equals = codes "="
@@ -45,3 +76,23 @@ name_of_word word.Begingroup = codes "begingroup"
 name_of_word word.Endgroup = codes "endgroup"
 name_of_word word.End = codes "end"
 name_of_word (word.Command c) = name_of_command c
+
+-- the words, in the order in which they get their numbers
+abbrev pub words : List Word
+words =
+    word.Tertiary tertiary.Plus ∷ word.Tertiary tertiary.Minus ∷ word.Secondary secondary.Times ∷ word.Secondary secondary.Over
+    ∷ word.Comma ∷ word.Semicolon ∷ word.Equals ∷ word.Assign
+    ∷ word.LeftBracket ∷ word.RightBracket ∷ word.Str ∷ word.Begingroup ∷ word.Endgroup ∷ word.End
+    ∷ word.Command command.Show ∷ word.Command (command.Symbols symbol_command.Save) ∷ word.Command command.Interim
+    ∷ word.Command command.Let ∷ word.Command command.Delimiters ∷ word.Command (command.Symbols symbol_command.Newinternal)
+    ∷ word.Command (command.Speech speech.Message) ∷ word.Command (command.Speech speech.Errmessage) ∷ word.Command (command.Speech speech.Errhelp)
+    ∷ word.Command (command.Mode mode.Batch) ∷ word.Command (command.Mode mode.Scroll)
+    ∷ word.Command (command.Mode mode.Nonstop) ∷ word.Command (command.Mode mode.Errorstop)
+    ∷ word.Command (command.Type kind.Boolean) ∷ word.Command (command.Type kind.Numeric) ∷ word.Command (command.Type kind.Text)
+    ∷ []
+
+-- the operator that a word is before a primary, if it is one
+abbrev pub unary_of : Word → Option Unary
+unary_of (word.Tertiary tertiary.Plus) = Some unary.Plus
+unary_of (word.Tertiary tertiary.Minus) = Some unary.Minus
+unary_of w = None

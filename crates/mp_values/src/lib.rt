@@ -17,4 +17,4 @@ pub use meaning::{Delimiters, Meaning, UnbuiltWord};
 pub use scaled::Scaled;
 pub use stop::Stop;
 pub use value::{Kind, Value};
-pub use word::{Command, Word};
+pub use word::{Command, Mode, Secondary, Speech, SymbolCommand, Tertiary, Unary, Word};

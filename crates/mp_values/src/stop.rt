@@ -1,10 +1,10 @@
 //! Why a run stops before its end.
 
-ghost use Rattle.std.specs.Prelude.{◌≡◌};
-ghost use Rattle.mp_values.specs.declared.stop.Stop.TheVariants.{NoMemory as WantOfMemory};
+ghost use Rattle.std.specs.Prelude.{◌≡◌, IfOk, IfErr};
+ghost use Rattle.mp_values.specs.declared.stop.Stop.TheVariants.{Refused as WasRefused, NoMemory as WantOfMemory};
 ghost use Rattle.mp_values.specs.Outcome.{IsStop};
 ghost use Rattle.mp_values.specs.Refusals as refusals;
-ghost use Rattle.mp_values.specs.Refusals.{stop_of_arith, stop_of_form, bad_token};
+ghost use Rattle.mp_values.specs.Refusals.{error_of_arith, error_of_form, error_of_token};
 
 use mp_forms::FormFault;
 use mp_report::SourceError;
@@ -19,6 +19,9 @@ pub enum Stop {
     Refused(SourceError),
     /// An item was to be taken, and the budget of steps was used up.
     OutOfSteps,
+    /// A file of that name was asked for, and could not be read.
+    Unread(Bytes),
+    /// Memory ran out: the one stop that no definition knows.
     NoMemory,
 }
 
@@ -31,7 +34,7 @@ impl From<NoMemory> for Stop {
 }
 
 impl From<Arith> for Stop {
-    ghost from_gives = { λ fault stop. stop ≡ stop_of_arith fault };
+    ghost from_gives = { λ fault stop. stop ≡ WasRefused (error_of_arith fault) };
 
     fn from(fault: Arith) -> Stop {
         match fault {
@@ -42,7 +45,7 @@ impl From<Arith> for Stop {
 }
 
 impl From<FormFault> for Stop {
-    ghost from_gives = { λ fault stop. stop ≡ stop_of_form fault };
+    ghost from_gives = { λ fault stop. stop ≡ WasRefused (error_of_form fault) };
 
     fn from(fault: FormFault) -> Stop {
         match fault {
@@ -54,7 +57,7 @@ impl From<FormFault> for Stop {
 }
 
 impl From<BadToken> for Stop {
-    ghost from_gives = { λ cause stop. stop ≡ bad_token cause };
+    ghost from_gives = { λ cause stop. stop ≡ WasRefused (error_of_token cause) };
 
     fn from(cause: BadToken) -> Stop {
         Stop::Refused(match cause {
@@ -65,15 +68,23 @@ impl From<BadToken> for Stop {
     }
 }
 
+/// A refusal, where there was memory for what it keeps.
+fn refused(error: Result<SourceError, NoMemory>) -> Stop
+    ensures made { IfOk error (λ e. result ≡ WasRefused e) }
+    ensures starved { IfErr error (λ _. result ≡ WantOfMemory) }
+{
+    match error {
+        Ok(error) => Stop::Refused(error),
+        Err(NoMemory) => Stop::NoMemory,
+    }
+}
+
 impl Stop {
     /// The refusal of something that is not built.
     pub fn not_built(alloc: Global, what: &[u8]) -> Stop
         ensures { IsStop result (refusals.not_built what.now) }
     {
-        match Bytes::copy_of(alloc, what) {
-            Ok(what) => Stop::Refused(SourceError::NotBuilt(what)),
-            Err(NoMemory) => Stop::NoMemory,
-        }
+        refused(Bytes::copy_of(alloc, what).map(SourceError::NotBuilt))
     }
 
     /// The refusal of what stood where something else was wanted.
@@ -90,19 +101,13 @@ impl Stop {
     pub fn wrong_type(alloc: Global, op: &[u8]) -> Stop
         ensures { IsStop result (refusals.wrong_type op.now) }
     {
-        match Bytes::copy_of(alloc, op) {
-            Ok(op) => Stop::Refused(SourceError::WrongType(op)),
-            Err(NoMemory) => Stop::NoMemory,
-        }
+        refused(Bytes::copy_of(alloc, op).map(SourceError::WrongType))
     }
 
     /// The refusal of an unknown where the operator or word needs a known value.
     pub fn not_known(alloc: Global, op: &[u8]) -> Stop
         ensures { IsStop result (refusals.not_known op.now) }
     {
-        match Bytes::copy_of(alloc, op) {
-            Ok(op) => Stop::Refused(SourceError::NotKnown(op)),
-            Err(NoMemory) => Stop::NoMemory,
-        }
+        refused(Bytes::copy_of(alloc, op).map(SourceError::NotKnown))
     }
 }

@@ -5,33 +5,77 @@ ghost use Rattle.mp_values.specs.Words as words;
 
 use crate::Kind;
 
+/// A word that acts on each symbol of a list.
+#[derive(Clone, Copy, Debug, PartialEq, Eq)]
+pub enum SymbolCommand {
+    /// Each symbol becomes a new tag, up to the end of the group.
+    Save,
+    /// Each symbol becomes a new internal.
+    Newinternal,
+}
+
+/// A word that says a string.
+#[derive(Clone, Copy, Debug, PartialEq, Eq)]
+pub enum Speech {
+    /// As a line.
+    Message,
+    /// As the error that ends the run.
+    Errmessage,
+    /// As help, which has no effect.
+    Errhelp,
+}
+
+/// A word for how a run goes on at an error, which has no effect.
+#[derive(Clone, Copy, Debug, PartialEq, Eq)]
+pub enum Mode {
+    Batch,
+    Scroll,
+    Nonstop,
+    Errorstop,
+}
+
 /// A word that begins a statement.
 #[derive(Clone, Copy, Debug, PartialEq, Eq)]
 pub enum Command {
     Show,
-    Save,
+    Symbols(SymbolCommand),
     Interim,
     Let,
     Delimiters,
-    Newinternal,
-    Message,
-    Errmessage,
-    Errhelp,
-    Batchmode,
-    Scrollmode,
-    Nonstopmode,
-    Errorstopmode,
+    Speech(Speech),
+    Mode(Mode),
     /// Declares variables of that type.
     Type(Kind),
+}
+
+/// An operator that stands before a primary.
+#[derive(Clone, Copy, Debug, PartialEq, Eq)]
+pub enum Unary {
+    Plus,
+    Minus,
+}
+
+/// An operator that joins primaries.
+#[derive(Clone, Copy, Debug, PartialEq, Eq)]
+pub enum Secondary {
+    Times,
+    /// The quotient; its word is also the slash of a fraction.
+    Over,
+}
+
+/// An operator that joins secondaries.
+#[derive(Clone, Copy, Debug, PartialEq, Eq)]
+pub enum Tertiary {
+    Plus,
+    Minus,
 }
 
 /// A word of the language that is built.
 #[derive(Clone, Copy, Debug, PartialEq, Eq)]
 pub enum Word {
-    Plus,
-    Minus,
-    Times,
-    Slash,
+    Secondary(Secondary),
+    /// An operator that joins secondaries. Each of them can stand before a primary too.
+    Tertiary(Tertiary),
     Comma,
     Semicolon,
     Equals,
@@ -45,6 +89,45 @@ pub enum Word {
     Command(Command),
 }
 
+impl SymbolCommand {
+    /// The symbol that means the word at the start of a run.
+    pub fn name(self) -> &'static [u8]
+        ensures { result.now ≡ words.name_of_symbol_command self }
+    {
+        match self {
+            SymbolCommand::Save => b"save",
+            SymbolCommand::Newinternal => b"newinternal",
+        }
+    }
+}
+
+impl Speech {
+    /// The symbol that means the word at the start of a run.
+    pub fn name(self) -> &'static [u8]
+        ensures { result.now ≡ words.name_of_speech self }
+    {
+        match self {
+            Speech::Message => b"message",
+            Speech::Errmessage => b"errmessage",
+            Speech::Errhelp => b"errhelp",
+        }
+    }
+}
+
+impl Mode {
+    /// The symbol that means the word at the start of a run.
+    pub fn name(self) -> &'static [u8]
+        ensures { result.now ≡ words.name_of_mode self }
+    {
+        match self {
+            Mode::Batch => b"batchmode",
+            Mode::Scroll => b"scrollmode",
+            Mode::Nonstop => b"nonstopmode",
+            Mode::Errorstop => b"errorstopmode",
+        }
+    }
+}
+
 impl Command {
     /// The symbol that means the word at the start of a run.
     pub fn name(self) -> &'static [u8]
@@ -52,30 +135,60 @@ impl Command {
     {
         match self {
             Command::Show => b"show",
-            Command::Save => b"save",
+            Command::Symbols(command) => command.name(),
             Command::Interim => b"interim",
             Command::Let => b"let",
             Command::Delimiters => b"delimiters",
-            Command::Newinternal => b"newinternal",
-            Command::Message => b"message",
-            Command::Errmessage => b"errmessage",
-            Command::Errhelp => b"errhelp",
-            Command::Batchmode => b"batchmode",
-            Command::Scrollmode => b"scrollmode",
-            Command::Nonstopmode => b"nonstopmode",
-            Command::Errorstopmode => b"errorstopmode",
+            Command::Speech(speech) => speech.name(),
+            Command::Mode(mode) => mode.name(),
             Command::Type(kind) => kind.name(),
         }
     }
 }
 
+impl Unary {
+    /// The symbol that means the operator at the start of a run.
+    pub fn name(self) -> &'static [u8]
+        ensures { result.now ≡ words.name_of_unary self }
+    {
+        match self {
+            Unary::Plus => b"+",
+            Unary::Minus => b"-",
+        }
+    }
+}
+
+impl Secondary {
+    /// The symbol that means the operator at the start of a run.
+    pub fn name(self) -> &'static [u8]
+        ensures { result.now ≡ words.name_of_secondary self }
+    {
+        match self {
+            Secondary::Times => b"*",
+            Secondary::Over => b"/",
+        }
+    }
+}
+
+impl Tertiary {
+    /// The symbol that means the operator at the start of a run.
+    pub fn name(self) -> &'static [u8]
+        ensures { result.now ≡ words.name_of_tertiary self }
+    {
+        match self {
+            Tertiary::Plus => b"+",
+            Tertiary::Minus => b"-",
+        }
+    }
+}
+
 impl Word {
-    /// Each word once.
+    /// Each word once, in the order in which they get their numbers.
     pub const ALL: [Word; 30] = [
-        Word::Plus,
-        Word::Minus,
-        Word::Times,
-        Word::Slash,
+        Word::Tertiary(Tertiary::Plus),
+        Word::Tertiary(Tertiary::Minus),
+        Word::Secondary(Secondary::Times),
+        Word::Secondary(Secondary::Over),
         Word::Comma,
         Word::Semicolon,
         Word::Equals,
@@ -87,18 +200,18 @@ impl Word {
         Word::Endgroup,
         Word::End,
         Word::Command(Command::Show),
-        Word::Command(Command::Save),
+        Word::Command(Command::Symbols(SymbolCommand::Save)),
         Word::Command(Command::Interim),
         Word::Command(Command::Let),
         Word::Command(Command::Delimiters),
-        Word::Command(Command::Newinternal),
-        Word::Command(Command::Message),
-        Word::Command(Command::Errmessage),
-        Word::Command(Command::Errhelp),
-        Word::Command(Command::Batchmode),
-        Word::Command(Command::Scrollmode),
-        Word::Command(Command::Nonstopmode),
-        Word::Command(Command::Errorstopmode),
+        Word::Command(Command::Symbols(SymbolCommand::Newinternal)),
+        Word::Command(Command::Speech(Speech::Message)),
+        Word::Command(Command::Speech(Speech::Errmessage)),
+        Word::Command(Command::Speech(Speech::Errhelp)),
+        Word::Command(Command::Mode(Mode::Batch)),
+        Word::Command(Command::Mode(Mode::Scroll)),
+        Word::Command(Command::Mode(Mode::Nonstop)),
+        Word::Command(Command::Mode(Mode::Errorstop)),
         Word::Command(Command::Type(Kind::Boolean)),
         Word::Command(Command::Type(Kind::Numeric)),
         Word::Command(Command::Type(Kind::Text)),
@@ -109,10 +222,8 @@ impl Word {
         ensures { result.now ≡ words.name_of_word self }
     {
         match self {
-            Word::Plus => b"+",
-            Word::Minus => b"-",
-            Word::Times => b"*",
-            Word::Slash => b"/",
+            Word::Secondary(operator) => operator.name(),
+            Word::Tertiary(operator) => operator.name(),
             Word::Comma => b",",
             Word::Semicolon => b";",
             Word::Equals => b"=",
@@ -124,6 +235,17 @@ impl Word {
             Word::Endgroup => b"endgroup",
             Word::End => b"end",
             Word::Command(command) => command.name(),
+        }
+    }
+
+    /// The operator that the word is before a primary, if it is one.
+    pub fn unary(self) -> Option<Unary>
+        ensures { result ≡ words.unary_of self }
+    {
+        match self {
+            Word::Tertiary(Tertiary::Plus) => Some(Unary::Plus),
+            Word::Tertiary(Tertiary::Minus) => Some(Unary::Minus),
+            _ => None,
         }
     }
 }
