@@ -28,14 +28,16 @@ error_of_token bad.Enormous = error.EnormousNumber
 abbrev pub bad_token : BadToken → Cause
 bad_token cause = Refused (error_of_token cause)
 
+-- a word that is not built is refused as soon as it is met
 abbrev pub not_built : List ℕ → Cause
 not_built word = Refused (error.NotBuilt word)
 
 abbrev pub unexpected : List ℕ → List ℕ → Cause
 unexpected wanted stood = Refused (error.Unexpected wanted stood)
 
-abbrev pub wrong_type : List ℕ → Cause
-wrong_type op = Refused (error.WrongType op)
+-- what an operator or a word does not allow
+abbrev pub wrong_type : List ℕ → SourceError
+wrong_type op = error.WrongType op
 
-abbrev pub not_known : List ℕ → Cause
-not_known op = Refused (error.NotKnown op)
+abbrev pub not_known : List ℕ → SourceError
+not_known op = error.NotKnown op

@@ -5,6 +5,7 @@
 //! delimiter (Knuth, METAFONT: The Program, part 13).
 #![tactic(auto)]
 
+mod fault;
 mod item;
 mod meaning;
 mod scaled;
@@ -12,6 +13,7 @@ mod stop;
 mod value;
 mod word;
 
+pub use fault::Fault;
 pub use item::Item;
 pub use meaning::{Delimiters, Meaning, UnbuiltWord};
 pub use scaled::Scaled;
