@@ -1,0 +1,16 @@
+use Rattle.std.proofs.Common.{◌≡◌, ◌≤◌}
+use Rattle.mp_rules.specs.Machine.{coming, unknowns}
+use Rattle.mp_rules.specs.Rules.{NewinternalList}
+use Rattle.mp_rules.specs.Meaning.{the}
+use Rattle.mp_rules.proofs.evaluator.Evaluator.newinternal_list.Given as goal
+
+abbrev pub invariant-symbols : goal.invariant-symbols
+invariant-symbols l = record {
+  leads : the NewinternalList l.fn.self ≡ the NewinternalList l.self;
+  went : coming l.self ≤ coming l.fn.self;
+  kept : l.self.budget ≡ l.fn.self.budget;
+  grown : unknowns l.fn.self ≤ unknowns l.self;
+}
+
+abbrev pub decreases-symbols : goal.decreases-symbols
+decreases-symbols l = coming l.self

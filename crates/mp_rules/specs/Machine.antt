@@ -1,0 +1,59 @@
+-- What a rule reads and changes.
+use Rattle.std.specs.Prelude.{ℕ, List, Option, Some, None, ◌-◌, ◌+◌}
+use Rattle.mp_files.specs.declared.outside.Kept.{Kept}
+use Rattle.mp_report.specs.declared.place.Place.{Place}
+use Rattle.mp_values.specs.Outcome.{OutcomeBy, RuleBy, Cause}
+use Rattle.mp_values.specs.declared.item.Item.{Item}
+use Rattle.mp_acts.specs.State.{State, unknown_count}
+use Rattle.mp_rules.specs.declared.front.Front.{Front}
+use Rattle.mp_rules.specs.declared.front.Front.TheVariants as front
+
+pub record Machine : Type 0 where
+  -- the sources that the run was given, and the names that it asked for, each once, in their order
+  pub sources : List Kept
+  pub asked : List (List ℕ)
+  -- the items that are left
+  pub text : List Item
+  -- the front in hand: the first of the phrase that is to be read, or the one behind what was read
+  pub front : Front
+  -- a front that was got already: the one behind a slash in hand
+  pub held : Option Front
+  -- the bytes of the front in hand, where that is a string
+  pub string : List ℕ
+  -- the last line end that was taken
+  pub last : Place
+  -- the items that were taken, of so many that may be
+  pub steps : ℕ
+  pub budget : ℕ
+  -- the primaries that are being read
+  pub nesting : ℕ
+  -- what statements act on
+  pub acts : State
+
+-- what comes of a rule
+abbrev pub Outcome : Type 0 → Type 0
+Outcome A = OutcomeBy Cause Machine A
+
+abbrev pub Rule : Type 0 → Type 0
+Rule A = RuleBy Cause Machine A
+
+-- a front took a step, but for the end of the text
+abbrev pub weight : Front → ℕ
+weight front.EndOfText = 0
+weight x = 1
+
+abbrev pub held_weight : Option Front → ℕ
+held_weight None = 0
+held_weight (Some x) = weight x
+
+-- how many fronts may still be got
+abbrev pub coming : Machine → ℕ
+coming s = (s.budget - s.steps) + held_weight s.held
+
+-- how many may still be used: with the one in hand
+abbrev pub left : Machine → ℕ
+left s = coming s + weight s.front
+
+-- the number of unknowns that were made
+abbrev pub unknowns : Machine → ℕ
+unknowns s = unknown_count s.acts

@@ -1,0 +1,89 @@
+//! Fronts and raw items: how the next one is got.
+
+ghost use Rattle.std.specs.Prelude.{◌≡◌};
+ghost use Rattle.mp_values.specs.Outcome.{Gives};
+ghost use Rattle.mp_rules.specs.Fronts.{symbol_front};
+ghost use Rattle.mp_rules.specs.Rules.{NextFront, NextRaw, raw_symbol, symbol_in, taken_front};
+ghost use Rattle.mp_rules.specs.Meaning.{Means, Uses, the};
+
+use crate::evaluator::Evaluator;
+use crate::front::{Front, Raw};
+use mp_values::{Item, Meaning, Stop};
+
+impl Evaluator {
+    /// The next front comes to hand: line ends and file ends are passed over.
+    #[tactic(auto, using(crate::proofs::Cases::next_front_is))]
+    pub(crate) fn next_front(&mut self) -> Result<(), Stop>
+        ensures { Means NextFront result self.old self.new }
+    {
+        if let Some(front) = self.release() {
+            self.see(front);
+            return Ok(());
+        }
+        'items: loop {
+            match self.take()? {
+                Item::LineEnd(_) | Item::FileEnd => {}
+                Item::Number(value) => {
+                    self.see(Front::Number(value));
+                    return Ok(());
+                }
+                Item::Symbol(symbol) => {
+                    let front = self.symbol_front(symbol)?;
+                    self.see(front);
+                    return Ok(());
+                }
+                Item::Text(bytes) => {
+                    self.see_string(bytes);
+                    return Ok(());
+                }
+                Item::Bad(cause) => return Err(Stop::from(cause)),
+                Item::EndOfText => {
+                    self.see(Front::EndOfText);
+                    return Ok(());
+                }
+            }
+        }
+    }
+
+    /// A symbol as a front; a word that is not built is refused.
+    fn symbol_front(&self, symbol: u32) -> Result<Front, Stop>
+        ensures { Gives result self.now (symbol_front symbol self.now) }
+    {
+        match self.acts.symbol_meaning(symbol) {
+            Meaning::Word(word) => Ok(Front::Word(symbol, word)),
+            Meaning::Unbuilt(word) => Err(Stop::not_built(self.alloc, word.name())),
+            Meaning::NewTag | Meaning::Tag(_) => Ok(Front::Tag(symbol)),
+            Meaning::Internal(k) => Ok(Front::Internal(symbol, k)),
+            Meaning::Left(pair) => Ok(Front::Left(symbol, pair)),
+            Meaning::Right(pair) => Ok(Front::Right(symbol, pair)),
+        }
+    }
+
+    /// The next item as it stands; line ends and file ends are passed over.
+    #[tactic(auto, using(crate::proofs::Cases::next_raw_is))]
+    pub(crate) fn raw(&mut self) -> Result<Raw, Stop>
+        ensures { Means NextRaw result self.old self.new }
+    {
+        'items: loop {
+            self.see(Front::EndOfText);
+            match self.take()? {
+                Item::LineEnd(_) | Item::FileEnd => {}
+                Item::Number(_) => return Ok(Raw::Number),
+                Item::Symbol(symbol) => return Ok(Raw::Symbol(symbol)),
+                Item::Text(_) => return Ok(Raw::Text),
+                Item::Bad(cause) => return Err(Stop::from(cause)),
+                Item::EndOfText => return Ok(Raw::EndOfText),
+            }
+        }
+    }
+
+    /// A symbol as it stands.
+    pub(crate) fn raw_symbol(&mut self) -> Result<u32, Stop>
+        ensures { Uses (raw_symbol the) result self.old self.new }
+    {
+        match self.raw()? {
+            Raw::Symbol(symbol) => Ok(symbol),
+            other => Err(self.unexpected_raw(b"symbol", other)),
+        }
+    }
+}
