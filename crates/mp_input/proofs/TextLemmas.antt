@@ -1,11 +1,9 @@
 -- On what is left of a body with its arguments.
-use Rattle.std.proofs.Common.{◌≡◌, ◌∙◌, refl, ap, ℕ, zero, suc, ◌+◌, List, [], ◌∷◌, drop, Some, None, add-one}
+use Rattle.std.proofs.Common.{◌≡◌, refl, ap, ℕ, zero, suc, ◌+◌, List, [], ◌∷◌, drop, Some, None, add-one}
 use Rattle.std.specs.List.{slice_get}
 use Rattle.mp_values.specs.declared.item.Item.{Item}
 use Rattle.mp_values.specs.Substitution.{stands_for, substitute}
-use Rattle.mp_input.specs.Texts.{substitute_behind, text_left, is_param}
-use Rattle.mp_values.specs.declared.item.Item.TheVariants as item
-use Rattle.std.proofs.Common.{false}
+use Rattle.mp_input.specs.Texts.{substitute_behind, text_left}
 
 -- an element that is there is the first behind those before it
 pub drop-some : {A : Type 0} (xs : List A) (i : ℕ) (x : A) → slice_get xs i ≡ Some x → drop i xs ≡ x ∷ drop (suc i) xs
@@ -41,21 +39,3 @@ text_passes body at inner args x e f =
 -- past the end of the body nothing is left
 pub text_ends : (body : List Item) (at inner : ℕ) (args : List (List Item)) → slice_get body at ≡ None → text_left body at inner args ≡ []
 text_ends body at inner args e = rw (drop-none body at e) refl
-
-single_past : (args : List (List Item)) (x y : Item) (inner : ℕ) → is_param x ≡ false → slice_get (stands_for args x) (inner + 1) ≡ None
-single_past args (item.Param n) y inner e = cc
-single_past args (item.Symbol n) y inner e = rw add-one refl
-single_past args (item.Number n) y inner e = rw add-one refl
-single_past args (item.Text n) y inner e = rw add-one refl
-single_past args (item.Bad n) y inner e = rw add-one refl
-single_past args (item.Capsule n) y inner e = rw add-one refl
-single_past args (item.LineEnd place) y inner e = rw add-one refl
-single_past args item.FileEnd y inner e = rw add-one refl
-single_past args item.EndOfText y inner e = rw add-one refl
-
--- what is no parameter gives itself alone
-pub text_moves : (body : List Item) (at inner : ℕ) (args : List (List Item)) (x y : Item)
-    → slice_get body at ≡ Some x → slice_get (stands_for args x) inner ≡ Some y → is_param x ≡ false
-    → text_left body at inner args ≡ y ∷ text_left body (at + 1) 0 args
-text_moves body at inner args x y e f p =
-    text_goes body at inner args x y e f ∙ ap (λ t. y ∷ t) (text_passes body at (inner + 1) args x e (single_past args x y inner p))

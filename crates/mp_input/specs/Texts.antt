@@ -1,7 +1,6 @@
 -- What is left of a body with its arguments.
-use Rattle.std.specs.Prelude.{ℕ, List, [], ◌∷◌, ◌++◌, drop, Bool, true, false}
+use Rattle.std.specs.Prelude.{ℕ, List, [], ◌∷◌, ◌++◌, drop}
 use Rattle.mp_values.specs.declared.item.Item.{Item}
-use Rattle.mp_values.specs.declared.item.Item.TheVariants.{Param}
 use Rattle.mp_values.specs.Substitution.{stands_for, substitute}
 
 -- without the first `inner` items that the first item of the body stands for
@@ -12,7 +11,3 @@ substitute_behind (x ∷ body) inner arguments = drop inner (stands_for argument
 -- from the item at a place on
 abbrev pub text_left : List Item → ℕ → ℕ → List (List Item) → List Item
 text_left body at inner arguments = substitute_behind (drop at body) inner arguments
-
-abbrev pub is_param : Item → Bool
-is_param (Param n) = true
-is_param item = false

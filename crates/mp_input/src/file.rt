@@ -36,7 +36,7 @@ impl Model for FileRest {
 
     ghost view = { λ f. file_left f.file f.tokens f.at f.end f.ended };
 
-    ghost invariant = { λ f. (f.end ≤ length f.tokens) × (f.cut ≡ true → f.at < f.end → EndsAtLine f.tokens f.at f.end) };
+    ghost invariant = { λ f. (f.at ≤ f.end) × (f.end ≤ length f.tokens) × (f.cut ≡ true → f.at < f.end → EndsAtLine f.tokens f.at f.end) };
 }
 
 fn is_line(token: &Token) -> bool
@@ -106,7 +106,7 @@ impl FileRest {
     pub(crate) fn first_line(&self) -> Option<Place>
         ensures { result ≡ first_line (items_pending self.now) }
     {
-        if self.ended || self.at > self.end {
+        if self.ended {
             return None;
         }
         let rest = &self.tokens.get().as_slice()[self.at..self.end];
@@ -127,7 +127,7 @@ impl FileRest {
     pub(crate) fn end_after_line(&mut self)
         ensures { first_line (items_pending self.old) ≢ None → (below : List Pending) → end_file_after_line (items_pending self.old ++ below) ≡ items_pending self.new ++ below }
     {
-        if self.ended || self.at > self.end {
+        if self.ended {
             return;
         }
         if self.cut && self.at < self.end {

@@ -4,21 +4,39 @@ ghost use Rattle.std.specs.Prelude.{◌≡◌, ◌↔◌, ◌+◌, ◌<◌, ◌^
 ghost use Rattle.std.specs.Option.{option_copied};
 ghost use Rattle.mp_values.specs.Substitution.{stands_for, substitute};
 ghost use Rattle.mp_input.specs.Taken.{TakenFrom};
-ghost use Rattle.mp_input.specs.Texts.{is_param};
 
 use mp_scaled::{NoMemory, Shared};
 use mp_values::{Arguments, Item, Items};
 use std::alloc::Global;
 use std::marker::Model;
 
+/// A place in a body.
+#[derive(Clone, Copy, Debug)]
+struct Position {
+    // the item of the body that comes next
+    at: usize,
+    // how many items of what it stands for were taken
+    inner: usize,
+}
+
+impl Position {
+    // Behind the item.
+    fn pass(&mut self)
+        requires { self.old.at + 1 < 2 ^ 64 }
+        ensures at { self.new.at ≡ self.old.at + 1 }
+        ensures inner { self.new.inner ≡ 0 }
+    {
+        self.at += 1;
+        self.inner = 0;
+    }
+}
+
 /// A body from some item on, in which each parameter stands for its argument. Contracts see the items that are left.
 #[derive(Drop)]
 pub(crate) struct Text {
     body: Shared<Items>,
     arguments: Arguments,
-    // the item of the body that comes next, and how many items of what it stands for were taken
-    at: usize,
-    inner: usize,
+    next: Position,
 }
 
 impl Model for Text {
@@ -28,7 +46,7 @@ impl Model for Text {
 
     ghost Value = { List Item };
 
-    ghost view = { λ t. text_left t.body t.at t.inner t.arguments };
+    ghost view = { λ t. text_left t.body t.next.at t.next.inner t.arguments };
 }
 
 // The item at a place.
@@ -37,12 +55,6 @@ fn item_at(items: &Items, at: usize) -> Option<&Item>
     ensures room { OnSome result (at + 1 < 2 ^ 64) }
 {
     items.as_slice().get(at)
-}
-
-fn is_param(item: &Item) -> bool
-    ensures { result ≡ is_param item.now }
-{
-    matches!(item, Item::Param(_))
 }
 
 // Of the items that an item of a body stands for, the one at a place.
@@ -67,34 +79,25 @@ impl Text {
         Text {
             body,
             arguments,
-            at: 0,
-            inner: 0,
+            next: Position { at: 0, inner: 0 },
         }
     }
 
     /// The first item that is left.
-    #[tactic(auto, using(crate::proofs::TextLemmas::text_goes, crate::proofs::TextLemmas::text_passes, crate::proofs::TextLemmas::text_ends, crate::proofs::TextLemmas::text_moves))]
+    #[tactic(auto, using(crate::proofs::TextLemmas::text_goes, crate::proofs::TextLemmas::text_passes, crate::proofs::TextLemmas::text_ends))]
     pub(crate) fn take(&mut self, alloc: Global) -> Result<Option<Item>, NoMemory>
         ensures { TakenFrom self.old result self.new }
     {
         'items: loop {
-            match item_at(self.body.get(), self.at) {
+            match item_at(self.body.get(), self.next.at) {
                 Some(item) => {
-                    match given(item, self.inner, &self.arguments) {
+                    match given(item, self.next.inner, &self.arguments) {
                         Some(found) => {
                             let taken = found.copy(alloc)?;
-                            if is_param(item) {
-                                self.inner += 1;
-                                return Ok(Some(taken));
-                            }
-                            self.at += 1;
-                            self.inner = 0;
+                            self.next.inner += 1;
                             return Ok(Some(taken));
                         }
-                        None => {
-                            self.at += 1;
-                            self.inner = 0;
-                        }
+                        None => self.next.pass(),
                     }
                 }
                 None => return Ok(None),
@@ -109,14 +112,11 @@ impl Text {
         ensures over { IsTrue result ↔ (self.old ≡ []) }
     {
         'items: loop {
-            match item_at(self.body.get(), self.at) {
+            match item_at(self.body.get(), self.next.at) {
                 Some(item) => {
-                    match given(item, self.inner, &self.arguments) {
+                    match given(item, self.next.inner, &self.arguments) {
                         Some(_) => return false,
-                        None => {
-                            self.at += 1;
-                            self.inner = 0;
-                        }
+                        None => self.next.pass(),
                     }
                 }
                 None => return true,
