@@ -1,9 +1,8 @@
 use mp_forms::Form;
 use mp_scaled::{Listing, Shared, SharedSlice};
-use mp_values::{Kind, Value};
+use mp_values::{Items, Kind, Level, Macro, Value};
 use mp_vartree::{
-    BadDeclaration, Found, Level, Macro, Part, Shape, Vars, WrongType, one_pattern_matches,
-    variables_are_a_map,
+    BadDeclaration, Found, Part, Shape, Vars, WrongType, one_pattern_matches, variables_are_a_map,
 };
 use std::alloc::Global;
 use std::test::Fail;
@@ -56,7 +55,7 @@ fn macro_of(alloc: Global) -> Result<Shared<Macro>, Fail> {
         alloc,
         Macro {
             params: Listing::new(alloc),
-            body: Listing::new(alloc),
+            body: Shared::new(alloc, Items::new(alloc))?,
             level: Level::Variable,
         },
     )?)

@@ -2,3 +2,5 @@ pub mod Words
 pub mod Items
 pub mod Outcome
 pub mod Refusals
+pub mod Ends
+pub mod Substitution

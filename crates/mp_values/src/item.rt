@@ -3,10 +3,11 @@
 ghost use Rattle.std.specs.Prelude.{◌≡◌, IfOk};
 ghost use Rattle.mp_values.specs.Items.{item_of};
 
-use crate::Scaled;
+use crate::{Scaled, Value};
 use mp_report::Place;
 use mp_scaled::{NoMemory, SharedSlice};
 use mp_tokens::{BadToken, Token};
+use std::alloc::Global;
 
 /// A piece of a text.
 #[derive(Debug, Drop)]
@@ -19,6 +20,10 @@ pub enum Item {
     Text(SharedSlice<u8>),
     /// Bytes that make no token.
     Bad(BadToken),
+    /// A value that stands for an expression which was evaluated.
+    Capsule(Value),
+    /// A parameter of the body that the item stands in: the argument of that number, from 0 on.
+    Param(u8),
     /// The end of a line.
     LineEnd(Place),
     /// The end of a file.
@@ -38,6 +43,23 @@ impl Item {
             Token::Text(bytes) => Ok(Item::Text(bytes.share()?)),
             Token::Bad(cause) => Ok(Item::Bad(*cause)),
             Token::LineEnd(line) => Ok(Item::LineEnd(Place { file, line: *line })),
+        }
+    }
+
+    /// The item once more; a string is shared.
+    pub fn copy(&self, alloc: Global) -> Result<Item, NoMemory>
+        ensures { IfOk result (λ copy. copy ≡ self.now) }
+    {
+        match self {
+            Item::Symbol(symbol) => Ok(Item::Symbol(*symbol)),
+            Item::Number(value) => Ok(Item::Number(*value)),
+            Item::Text(bytes) => Ok(Item::Text(bytes.share()?)),
+            Item::Bad(cause) => Ok(Item::Bad(*cause)),
+            Item::Capsule(value) => Ok(Item::Capsule(value.copy(alloc)?)),
+            Item::Param(number) => Ok(Item::Param(*number)),
+            Item::LineEnd(place) => Ok(Item::LineEnd(*place)),
+            Item::FileEnd => Ok(Item::FileEnd),
+            Item::EndOfText => Ok(Item::EndOfText),
         }
     }
 }

@@ -7,16 +7,24 @@
 
 mod fault;
 mod item;
+mod items;
+mod macros;
 mod meaning;
+mod remaining;
 mod scaled;
 mod stop;
+mod turn;
 mod value;
 mod word;
 
 pub use fault::Fault;
 pub use item::Item;
+pub use items::{Arguments, Items};
+pub use macros::{Level, Macro, ParamKind, Params};
 pub use meaning::{Delimiters, Meaning, UnbuiltWord};
+pub use remaining::Remaining;
 pub use scaled::Scaled;
 pub use stop::Stop;
+pub use turn::{LeftOver, Pending, Suffixes, Turn, Values};
 pub use value::{Kind, Value};
 pub use word::{Command, Mode, Secondary, Speech, SymbolCommand, Tertiary, Unary, Word};

@@ -1,8 +1,8 @@
 -- Worked examples: the definitions compute. The tag `a` has root 0; `b` and `c` are the symbols 5 and 6. The subscript
 -- 1 is 65536 units.
 use Rattle.std.proofs.Common.{◌≡◌, ℕ, ℤ, pos, true, false, List, [], ◌∷◌, Some, None, Err, refl}
-use Rattle.mp_vartree.specs.declared.macros.Macro.{Macro}
-use Rattle.mp_vartree.specs.declared.macros.Level.TheVariants as level
+use Rattle.mp_values.specs.declared.macros.Macro.{Macro}
+use Rattle.mp_values.specs.declared.macros.Level.TheVariants as level
 use Rattle.mp_values.specs.declared.value.Kind.TheVariants as kind
 use Rattle.mp_values.specs.declared.value.Value.{Value}
 use Rattle.mp_values.specs.declared.value.Value.TheVariants as value

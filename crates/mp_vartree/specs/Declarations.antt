@@ -1,7 +1,7 @@
 -- What was declared of a pattern, and the macros on the way along a name.
 -- After Knuth, METAFONT: The Program, part 15.
 use Rattle.std.specs.Prelude.{ℕ, suc, Bool, false, ◌||◌, List, [], ◌∷◌, Option, Some, None, is_some}
-use Rattle.mp_vartree.specs.declared.macros.Macro.{Macro}
+use Rattle.mp_values.specs.declared.macros.Macro.{Macro}
 use Rattle.mp_values.specs.declared.value.Kind.{Kind}
 use Rattle.mp_vartree.specs.declared.names.Shape.{Shape}
 use Rattle.mp_vartree.specs.declared.entry.Declared.{Declared}

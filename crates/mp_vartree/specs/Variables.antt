@@ -3,7 +3,7 @@
 use Rattle.std.specs.Prelude.{ℕ, suc, Bool, true, false, not, cond, List, [], ◌∷◌, ◌++◌, Option, Some, None, Result, Ok, Err, unwrap_or}
 use Rattle.std.specs.FinMap.{find, put}
 use Rattle.std.specs.FinMap.Entries.{where_key}
-use Rattle.mp_vartree.specs.declared.macros.Macro.{Macro}
+use Rattle.mp_values.specs.declared.macros.Macro.{Macro}
 use Rattle.mp_values.specs.declared.value.Kind.{Kind}
 use Rattle.mp_values.specs.declared.value.Kind.TheVariants.{Numeric}
 use Rattle.mp_values.specs.declared.value.Value.{Value}

@@ -1,8 +1,7 @@
 //! What the calls answer.
 
-use crate::Macro;
 use mp_scaled::Shared;
-use mp_values::Value;
+use mp_values::{Macro, Value};
 
 /// What a name stands for.
 #[derive(Debug, Drop)]

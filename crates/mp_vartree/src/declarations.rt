@@ -9,9 +9,9 @@ ghost use Rattle.mp_vartree.specs.Declarations.{kind_in, macro_in};
 
 use crate::entry::Declared;
 use crate::pattern_tree::PatternTree;
-use crate::{Macro, Part, Shape};
+use crate::{Part, Shape};
 use mp_scaled::Shared;
-use mp_values::Kind;
+use mp_values::{Kind, Macro};
 
 /// What was declared, by patterns.
 pub type Declarations = PatternTree<Declared>;

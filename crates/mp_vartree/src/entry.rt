@@ -1,8 +1,7 @@
 //! What is kept of a pattern and of a variable.
 
-use crate::Macro;
 use mp_scaled::Shared;
-use mp_values::{Kind, Value};
+use mp_values::{Kind, Macro, Value};
 
 /// What a pattern was declared to be.
 #[derive(Debug, Drop)]

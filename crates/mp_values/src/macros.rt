@@ -1,7 +1,7 @@
 //! Macros.
 
-use mp_scaled::Listing;
-use mp_values::Item;
+use crate::Items;
+use mp_scaled::{Listing, Shared};
 
 /// What a parameter of a macro takes.
 #[derive(Clone, Copy, Debug, PartialEq, Eq)]
@@ -48,13 +48,11 @@ pub enum Level {
 /// What the parameters of a macro take, in order.
 pub type Params = Listing<ParamKind>;
 
-/// A piece of a text, item by item.
-pub type Items = Listing<Item>;
-
 /// A macro.
 #[derive(Debug, Drop)]
 pub struct Macro {
     pub params: Params,
-    pub body: Items,
+    /// What a call stands for, with parameters in place of the arguments.
+    pub body: Shared<Items>,
     pub level: Level,
 }

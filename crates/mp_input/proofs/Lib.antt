@@ -1,0 +1,7 @@
+mod TextLemmas
+mod StackLemmas
+mod LineLemmas
+mod RestLemmas
+mod SearchLemmas
+mod PlainLemmas
+mod CutLemmas

@@ -1,0 +1,41 @@
+-- On what is left of a body with its arguments.
+use Rattle.std.proofs.Common.{◌≡◌, refl, ap, ℕ, zero, suc, ◌+◌, List, [], ◌∷◌, drop, Some, None, add-one}
+use Rattle.std.specs.List.{slice_get}
+use Rattle.mp_values.specs.declared.item.Item.{Item}
+use Rattle.mp_values.specs.Substitution.{stands_for, substitute}
+use Rattle.mp_input.specs.Texts.{substitute_behind, text_left}
+
+-- an element that is there is the first behind those before it
+pub drop-some : {A : Type 0} (xs : List A) (i : ℕ) (x : A) → slice_get xs i ≡ Some x → drop i xs ≡ x ∷ drop (suc i) xs
+drop-some [] i x e = cc
+drop-some (y ∷ ys) zero x e = let e : y ≡ x = cc in ap (λ z. z ∷ ys) e
+drop-some (y ∷ ys) (suc i) x e = drop-some ys i x e
+
+-- past the end nothing is left
+pub drop-none : {A : Type 0} (xs : List A) (i : ℕ) → slice_get xs i ≡ None → drop i xs ≡ []
+drop-none [] zero e = refl
+drop-none [] (suc i) e = refl
+drop-none (y ∷ ys) zero e = cc
+drop-none (y ∷ ys) (suc i) e = drop-none ys i e
+
+pub behind-none : (xs : List Item) (args : List (List Item)) → substitute_behind xs 0 args ≡ substitute xs args
+behind-none [] args = refl
+behind-none (x ∷ xs) args = refl
+
+-- the item that the first of the body gives comes first
+pub text_goes : (body : List Item) (at inner : ℕ) (args : List (List Item)) (x y : Item)
+    → slice_get body at ≡ Some x → slice_get (stands_for args x) inner ≡ Some y
+    → text_left body at inner args ≡ y ∷ text_left body at (inner + 1) args
+text_goes body at inner args x y e f =
+    rw (drop-some body at x e, drop-some (stands_for args x) inner y f, add-one) refl
+
+-- where it gives no more, the next of the body does
+pub text_passes : (body : List Item) (at inner : ℕ) (args : List (List Item)) (x : Item)
+    → slice_get body at ≡ Some x → slice_get (stands_for args x) inner ≡ None
+    → text_left body at inner args ≡ text_left body (at + 1) 0 args
+text_passes body at inner args x e f =
+    rw (drop-some body at x e, drop-none (stands_for args x) inner f, add-one, behind-none (drop (suc at) body) args) refl
+
+-- past the end of the body nothing is left
+pub text_ends : (body : List Item) (at inner : ℕ) (args : List (List Item)) → slice_get body at ≡ None → text_left body at inner args ≡ []
+text_ends body at inner args e = rw (drop-none body at e) refl

@@ -1,0 +1,144 @@
+//! What is left of a file.
+
+ghost use Rattle.std.specs.Prelude.{◌≡◌, ◌≢◌, ◌↔◌, ◌++◌, [], IsTrue, List, None, position};
+ghost use Rattle.mp_values.specs.Items.{file_items};
+ghost use Rattle.mp_values.specs.declared.turn.Pending.{Pending};
+ghost use Rattle.mp_input.specs.Files.{is_line, line_of};
+ghost use Rattle.mp_input.specs.Lines.{items_pending, first_line, end_file_after_line};
+ghost use Rattle.mp_input.specs.Taken.{TakenFrom};
+
+use mp_report::Place;
+use mp_scaled::{NoMemory, Shared};
+use mp_tokens::{Token, Tokens};
+use mp_values::Item;
+use std::marker::Model;
+
+/// A file's tokens from one of them on, and the end of the file behind them. Contracts see the items that are left.
+#[derive(Drop)]
+pub(crate) struct FileRest {
+    tokens: Shared<Tokens>,
+    file: u32,
+    at: usize,
+    // `endinput` moves the end down
+    end: usize,
+    // the end of the file was taken
+    ended: bool,
+    // `endinput` was met: the end of a line that is left is the last token that is left
+    cut: bool,
+}
+
+impl Model for FileRest {
+    ghost use Rattle.std.specs.Prelude.{List, length, ◌≡◌, ◌≤◌, ◌<◌, true};
+    ghost use Rattle.mp_values.specs.declared.item.Item.{Item};
+    ghost use Rattle.mp_input.specs.Files.{file_left, EndsAtLine};
+
+    ghost Value = { List Item };
+
+    ghost view = { λ f. file_left f.file f.tokens f.at f.end f.ended };
+
+    ghost invariant = { λ f. (f.at ≤ f.end) × (f.end ≤ length f.tokens) × (f.cut ≡ true → f.at < f.end → EndsAtLine f.tokens f.at f.end) };
+}
+
+fn is_line(token: &Token) -> bool
+    ensures { result ≡ is_line token.now }
+{
+    matches!(token, Token::LineEnd(_))
+}
+
+fn line_of(token: &Token) -> Option<u32>
+    ensures { result ≡ line_of token.now }
+{
+    match token {
+        Token::LineEnd(line) => Some(*line),
+        _ => None,
+    }
+}
+
+// Where the first end of a line is.
+fn line_at(tokens: &[Token]) -> Option<usize>
+    ensures { result ≡ position is_line tokens.now }
+{
+    tokens.iter().position(|token| is_line(token))
+}
+
+impl FileRest {
+    /// The whole file of that number.
+    pub(crate) fn new(file: u32, tokens: Shared<Tokens>) -> FileRest
+        ensures { result ≡ file_items file tokens }
+    {
+        let end = tokens.get().as_slice().len();
+        FileRest {
+            tokens,
+            file,
+            at: 0,
+            end,
+            ended: false,
+            cut: false,
+        }
+    }
+
+    /// The first item that is left.
+    #[tactic(auto, using(crate::proofs::CutLemmas::cut_next))]
+    pub(crate) fn take(&mut self) -> Result<Option<Item>, NoMemory>
+        ensures { TakenFrom self.old result self.new }
+    {
+        if self.at < self.end && !self.ended {
+            let item = Item::of(self.file, &self.tokens.get().as_slice()[self.at])?;
+            self.at += 1;
+            Ok(Some(item))
+        } else if self.ended {
+            Ok(None)
+        } else {
+            self.ended = true;
+            Ok(Some(Item::FileEnd))
+        }
+    }
+
+    /// Whether nothing is left.
+    pub(crate) fn is_over(&self) -> bool
+        ensures { IsTrue result ↔ (self.now ≡ []) }
+    {
+        self.ended
+    }
+
+    /// The first end of a line that is left.
+    #[tactic(auto, using(crate::proofs::RestLemmas::file_none, crate::proofs::RestLemmas::file_some))]
+    pub(crate) fn first_line(&self) -> Option<Place>
+        ensures { result ≡ first_line (items_pending self.now) }
+    {
+        if self.ended {
+            return None;
+        }
+        let rest = &self.tokens.get().as_slice()[self.at..self.end];
+        match line_at(rest) {
+            Some(at) => match line_of(&rest[at]) {
+                Some(line) => Some(Place {
+                    file: self.file,
+                    line,
+                }),
+                None => None,
+            },
+            None => None,
+        }
+    }
+
+    /// Ends the file after its first end of a line, if it has one.
+    #[tactic(auto, using(crate::proofs::RestLemmas::file_none, crate::proofs::RestLemmas::file_ends, crate::proofs::CutLemmas::cut_again, crate::proofs::CutLemmas::cut_made))]
+    pub(crate) fn end_after_line(&mut self)
+        ensures { first_line (items_pending self.old) ≢ None → (below : List Pending) → end_file_after_line (items_pending self.old ++ below) ≡ items_pending self.new ++ below }
+    {
+        if self.ended {
+            return;
+        }
+        if self.cut && self.at < self.end {
+            return;
+        }
+        match line_at(&self.tokens.get().as_slice()[self.at..self.end]) {
+            Some(at) => {
+                self.end = self.at + at + 1;
+                self.cut = true;
+            }
+            None => (),
+        }
+    }
+}
