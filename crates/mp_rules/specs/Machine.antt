@@ -3,7 +3,7 @@ use Rattle.std.specs.Prelude.{ℕ, List, Option, Some, None, ◌-◌, ◌+◌}
 use Rattle.mp_files.specs.declared.outside.Kept.{Kept}
 use Rattle.mp_report.specs.declared.place.Place.{Place}
 use Rattle.mp_values.specs.Outcome.{OutcomeBy, RuleBy, Cause}
-use Rattle.mp_values.specs.declared.item.Item.{Item}
+use Rattle.mp_values.specs.declared.turn.Pending.{Pending}
 use Rattle.mp_acts.specs.State.{State, unknown_count}
 use Rattle.mp_rules.specs.declared.front.Front.{Front}
 use Rattle.mp_rules.specs.declared.front.Front.TheVariants as front
@@ -12,8 +12,8 @@ pub record Machine : Type 0 where
   -- the sources that the run was given, and the names that it asked for, each once, in their order
   pub sources : List Kept
   pub asked : List (List ℕ)
-  -- the items that are left
-  pub text : List Item
+  -- the text that is left
+  pub text : List Pending
   -- the front in hand: the first of the phrase that is to be read, or the one behind what was read
   pub front : Front
   -- a front that was got already: the one behind a slash in hand

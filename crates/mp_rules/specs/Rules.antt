@@ -12,6 +12,8 @@ use Rattle.mp_values.specs.declared.item.Item.TheVariants as item
 use Rattle.mp_values.specs.declared.meaning.Delimiters.{Delimiters}
 use Rattle.mp_values.specs.declared.meaning.Meaning.{Meaning}
 use Rattle.mp_values.specs.declared.meaning.Meaning.TheVariants as meaning
+use Rattle.mp_values.specs.declared.turn.Pending.{Pending}
+use Rattle.mp_values.specs.declared.turn.Pending.TheVariants as pending
 use Rattle.mp_values.specs.declared.value.Kind.{Kind}
 use Rattle.mp_values.specs.declared.value.Kind.TheVariants as kind
 use Rattle.mp_values.specs.declared.value.Value.{Value}
@@ -40,7 +42,7 @@ use Rattle.mp_acts.specs.Groups.{open_group, end_group, with_each, let_symbol, d
 use Rattle.mp_acts.specs.declared.target.Target.TheVariants as target
 use Rattle.mp_rules.specs.Machine.{Machine, Rule}
 use Rattle.mp_rules.specs.Fronts.{symbol_front, secondary_in, tertiary_in, begins_primary, begins_factor}
-use Rattle.mp_rules.specs.Steps.{take_item, enter, leave, see, see_string, hold, string_in_hand, acting, internal_number, unexpected, unexpected_raw}
+use Rattle.mp_rules.specs.Steps.{take_first, enter, leave, see, see_string, hold, string_in_hand, acting, internal_number, unexpected, unexpected_raw}
 use Rattle.mp_rules.specs.Chains.{settle}
 use Rattle.mp_rules.specs.declared.front.Front.{Front}
 use Rattle.mp_rules.specs.declared.front.Front.TheVariants as front
@@ -126,20 +128,27 @@ front_of_symbol symbol = do
   x ← symbol_front symbol
   change (see x)
 
--- line ends and file ends are passed over
-abbrev pub front_of : Rules → Item → Rule (Unit {0})
-front_of rule (item.LineEnd place) = rule NextFront
-front_of rule item.FileEnd = rule NextFront
-front_of rule (item.Number n) = change (see (front.Number n))
-front_of rule (item.Symbol symbol) = front_of_symbol symbol
-front_of rule (item.Text bytes) = change (see_string bytes)
-front_of rule (item.Bad cause) = halt (bad_token cause)
-front_of rule item.EndOfText = change (see front.EndOfText)
+-- ends of lines and of files are passed over. (Nothing puts a capsule, a parameter or a turn into a text yet.)
+abbrev pub front_of_item : Rules → Item → Rule (Unit {0})
+front_of_item rule (item.Symbol symbol) = front_of_symbol symbol
+front_of_item rule (item.Number n) = change (see (front.Number n))
+front_of_item rule (item.Text bytes) = change (see_string bytes)
+front_of_item rule (item.Bad cause) = halt (bad_token cause)
+front_of_item rule (item.Capsule v) = rule NextFront
+front_of_item rule (item.Param number) = rule NextFront
+front_of_item rule (item.LineEnd place) = rule NextFront
+front_of_item rule item.FileEnd = rule NextFront
+front_of_item rule item.EndOfText = rule NextFront
+
+abbrev pub front_of : Rules → Option Pending → Rule (Unit {0})
+front_of rule (Some (pending.Item x)) = front_of_item rule x
+front_of rule (Some (pending.Turn turn)) = rule NextFront
+front_of rule None = change (see front.EndOfText)
 
 abbrev pub taken_front : Rules → Rule (Unit {0})
 taken_front rule = do
-  item ← take_item
-  front_of rule item
+  taken ← take_first
+  front_of rule taken
 
 abbrev pub held_or_taken : Rules → Option Front → Rule (Unit {0})
 held_or_taken rule (Some x) s = Ok (tt, record s { front = x; held = None })
@@ -149,20 +158,27 @@ abbrev pub next_front : Rules → Rule (Unit {0})
 next_front rule s = held_or_taken rule s.held s
 
 -- the next item as it stands
-abbrev pub raw_of : Rules → Item → Rule Raw
-raw_of rule (item.LineEnd place) = rule NextRaw
-raw_of rule item.FileEnd = rule NextRaw
-raw_of rule (item.Number n) = give raw.Number
-raw_of rule (item.Symbol symbol) = give (raw.Symbol symbol)
-raw_of rule (item.Text bytes) = give raw.Text
-raw_of rule (item.Bad cause) = halt (bad_token cause)
-raw_of rule item.EndOfText = give raw.EndOfText
+abbrev pub raw_of_item : Rules → Item → Rule Raw
+raw_of_item rule (item.Symbol symbol) = give (raw.Symbol symbol)
+raw_of_item rule (item.Number n) = give raw.Number
+raw_of_item rule (item.Text bytes) = give raw.Text
+raw_of_item rule (item.Bad cause) = halt (bad_token cause)
+raw_of_item rule (item.Capsule v) = rule NextRaw
+raw_of_item rule (item.Param number) = rule NextRaw
+raw_of_item rule (item.LineEnd place) = rule NextRaw
+raw_of_item rule item.FileEnd = rule NextRaw
+raw_of_item rule item.EndOfText = rule NextRaw
+
+abbrev pub raw_of : Rules → Option Pending → Rule Raw
+raw_of rule (Some (pending.Item x)) = raw_of_item rule x
+raw_of rule (Some (pending.Turn turn)) = rule NextRaw
+raw_of rule None = give raw.EndOfText
 
 abbrev pub next_raw : Rules → Rule Raw
 next_raw rule = do
   used ← change (see front.EndOfText)
-  item ← take_item
-  raw_of rule item
+  taken ← take_first
+  raw_of rule taken
 
 abbrev pub symbol_in : Raw → Rule ℕ
 symbol_in (raw.Symbol symbol) = give symbol

@@ -5,40 +5,29 @@ use Rattle.mp_report.specs.declared.error.Cap.TheVariants as cap
 use Rattle.mp_report.specs.declared.error.SourceError.TheVariants as error
 use Rattle.mp_values.specs.Outcome.{Cause, Refused, OutOfSteps}
 use Rattle.mp_values.specs.Outcome as act
-use Rattle.mp_values.specs.declared.item.Item.{Item}
-use Rattle.mp_values.specs.declared.item.Item.TheVariants.{LineEnd, EndOfText}
+use Rattle.mp_values.specs.declared.turn.Pending.{Pending}
 use Rattle.mp_values.specs.declared.value.Value.{Value}
 use Rattle.mp_values.specs.declared.word.Secondary.TheVariants.{Over}
 use Rattle.mp_values.specs.declared.word.Word.TheVariants.{Secondary}
 use Rattle.mp_acts.specs.State.{State, internal_value}
 use Rattle.mp_acts.specs.Arithmetic.{known_number}
+use Rattle.mp_input.specs.Lines.{last_after, place_in}
 use Rattle.mp_rules.specs.Machine.{Machine, Outcome, Rule}
 use Rattle.mp_rules.specs.Fronts.{refused_front, refused_raw}
 use Rattle.mp_rules.specs.declared.front.Front.{Front}
 use Rattle.mp_rules.specs.declared.front.Front.TheVariants as front
 use Rattle.mp_rules.specs.declared.front.Raw.{Raw}
 
--- the last line end, after an item
-abbrev pub last_after : Item → Place → Place
-last_after (LineEnd place) last = place
-last_after x last = last
-
-abbrev pub take_from : List Item → Rule Item
-take_from [] s = Ok (EndOfText, s)
-take_from (item ∷ rest) s =
+abbrev pub take_from : List Pending → Rule (Option Pending)
+take_from [] s = Ok (None, s)
+take_from (x ∷ rest) s =
     if nat_lt s.steps s.budget
-    then Ok (item, record s { text = rest; last = last_after item s.last; steps = s.steps + 1 })
+    then Ok (Some x, record s { text = rest; last = last_after x s.last; steps = s.steps + 1 })
     else Err (OutOfSteps, s)
 
--- the item off the front of the text: a step. An empty text gives EndOfText, without a step
-unfoldable pub take_item : Rule Item
-take_item s = take_from s.text s
-
--- the first line end that is left, else the last that was taken
-abbrev pub place_in : List Item → Place → Place
-place_in [] last = last
-place_in (LineEnd place ∷ rest) last = place
-place_in (item ∷ rest) last = place_in rest last
+-- what is first in the text is taken off it: a step. From an empty text nothing is taken, and that is no step
+unfoldable pub take_first : Rule (Option Pending)
+take_first s = take_from s.text s
 
 -- the place of an error
 abbrev pub place_of : Machine → Place

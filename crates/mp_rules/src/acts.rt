@@ -1,7 +1,7 @@
-//! The acts of statements and expressions, within a run.
+//! The acts of statements and expressions, within a run: each takes its values, which it gives up.
 
-ghost use Rattle.std.specs.Prelude.{◌≡◌, ◌≤◌, IfOk};
-ghost use Rattle.mp_values.specs.Outcome.{change};
+ghost use Rattle.std.specs.Prelude.{◌≡◌, ◌≤◌, Ok};
+ghost use Rattle.mp_values.specs.Outcome.{change, lift};
 ghost use Rattle.mp_acts.specs.Arithmetic as arithmetic;
 ghost use Rattle.mp_acts.specs.Groups as groups;
 ghost use Rattle.mp_acts.specs.Lines as lines;
@@ -9,67 +9,54 @@ ghost use Rattle.mp_acts.specs.Reach.{reach};
 ghost use Rattle.mp_acts.specs.Suffixes as suffixes;
 ghost use Rattle.mp_acts.specs.Variables as variables;
 ghost use Rattle.mp_rules.specs.Machine.{unknowns};
-ghost use Rattle.mp_rules.specs.Rules.{spoken_by};
-ghost use Rattle.mp_rules.specs.Meaning.{Acts, ActsValue};
-ghost use Rattle.mp_rules.specs.Sides.{gets, reach_of_side};
+ghost use Rattle.mp_rules.specs.Contracts.{Acts, ActsValue};
+ghost use Rattle.mp_rules.specs.Chains.{gets, reach_of_side};
 ghost use Rattle.mp_rules.specs.Steps.{acting, internal_number};
 
+use crate::chain_side::ChainSide;
 use crate::evaluator::Evaluator;
-use crate::side::Side;
-use mp_values::{Command, Kind, Scaled, Stop, Value};
+use mp_scaled::SharedSlice;
+use mp_values::{Kind, Scaled, Secondary, Speech, Stop, SymbolCommand, Tertiary, Unary, Value};
 use mp_vartree::{Pattern, Suffix};
 
 impl Evaluator {
-    /// The sum of two numbers.
-    pub(crate) fn sum(&self, left: Value, right: Value) -> Result<Value, Stop>
+    /// What an operator makes of the primary behind it.
+    #[tactic(auto, using(crate::proofs::Stops::fault_stops))]
+    pub(crate) fn unary_of(&self, operator: Unary, right: Value) -> Result<Value, Stop>
+        requires { reach right ≤ unknowns self.now }
+        ensures { ActsValue (acting (arithmetic.unary operator right)) result self.now self.now }
+    {
+        Ok(self.acts.unary(operator, &right)?)
+    }
+
+    /// What an operator makes of the primaries that it joins.
+    #[tactic(auto, using(crate::proofs::Stops::fault_stops))]
+    pub(crate) fn secondary_of(
+        &self,
+        operator: Secondary,
+        left: Value,
+        right: Value,
+    ) -> Result<Value, Stop>
         requires left { reach left ≤ unknowns self.now }
         requires right { reach right ≤ unknowns self.now }
-        ensures { ActsValue (acting (arithmetic.sum left right)) result self.now self.now }
+        ensures { ActsValue (acting (arithmetic.secondary operator left right)) result self.now self.now }
     {
-        self.acts.sum(&left, &right)
+        Ok(self.acts.secondary(operator, &left, &right)?)
     }
 
-    /// The difference of two numbers.
-    pub(crate) fn difference(&self, left: Value, right: Value) -> Result<Value, Stop>
+    /// What an operator makes of the secondaries that it joins.
+    #[tactic(auto, using(crate::proofs::Stops::fault_stops))]
+    pub(crate) fn tertiary_of(
+        &self,
+        operator: Tertiary,
+        left: Value,
+        right: Value,
+    ) -> Result<Value, Stop>
         requires left { reach left ≤ unknowns self.now }
         requires right { reach right ≤ unknowns self.now }
-        ensures { ActsValue (acting (arithmetic.difference left right)) result self.now self.now }
+        ensures { ActsValue (acting (arithmetic.tertiary operator left right)) result self.now self.now }
     {
-        self.acts.difference(&left, &right)
-    }
-
-    /// The product of two numbers, one of which must be known.
-    pub(crate) fn product(&self, left: Value, right: Value) -> Result<Value, Stop>
-        requires left { reach left ≤ unknowns self.now }
-        requires right { reach right ≤ unknowns self.now }
-        ensures { ActsValue (acting (arithmetic.product left right)) result self.now self.now }
-    {
-        self.acts.product(&left, &right)
-    }
-
-    /// The quotient of two numbers, the second of which must be known.
-    pub(crate) fn quotient(&self, left: Value, right: Value) -> Result<Value, Stop>
-        requires left { reach left ≤ unknowns self.now }
-        requires right { reach right ≤ unknowns self.now }
-        ensures { ActsValue (acting (arithmetic.quotient left right)) result self.now self.now }
-    {
-        self.acts.quotient(&left, &right)
-    }
-
-    /// A number with `+` before it.
-    pub(crate) fn positive(&self, value: Value) -> Result<Value, Stop>
-        requires { reach value ≤ unknowns self.now }
-        ensures { ActsValue (acting (arithmetic.positive value)) result self.now self.now }
-    {
-        self.acts.positive(&value)
-    }
-
-    /// A number with `-` before it.
-    pub(crate) fn negated(&self, value: Value) -> Result<Value, Stop>
-        requires { reach value ≤ unknowns self.now }
-        ensures { ActsValue (acting (arithmetic.negated value)) result self.now self.now }
-    {
-        self.acts.negated(&value)
+        Ok(self.acts.tertiary(operator, &left, &right)?)
     }
 
     /// A number token.
@@ -81,137 +68,149 @@ impl Evaluator {
     }
 
     /// Two number tokens with a slash between them.
+    #[tactic(auto, using(crate::proofs::Stops::fault_stops))]
     pub(crate) fn fraction(&self, over: Scaled, under: Scaled) -> Result<Value, Stop>
-        ensures exact { result ≡ arithmetic.fraction over under }
-        ensures within { IfOk result (λ v. reach v ≡ 0) }
+        ensures { ActsValue (acting (lift (arithmetic.fraction over under))) result self.now self.now }
     {
-        self.acts.fraction(over, under)
+        Ok(self.acts.fraction(over, under)?)
     }
 
     /// The root of a tag; one that has none gets the next.
+    #[tactic(auto, using(crate::proofs::Stops::fault_stops))]
     pub(crate) fn root_of(&mut self, symbol: u32) -> Result<u32, Stop>
         ensures acts { Acts (acting (variables.root_of symbol)) result self.old self.new }
         ensures hand { self.new.front ≡ self.old.front }
     {
-        self.acts.root_of(symbol)
+        Ok(self.acts.root_of(symbol)?)
     }
 
     /// The value of the variable of a root, whose tag that symbol is, with these parts behind it.
+    #[tactic(auto, using(crate::proofs::Stops::fault_stops))]
     pub(crate) fn read(&mut self, symbol: u32, root: u32, name: Suffix) -> Result<Value, Stop>
         ensures { ActsValue (acting (variables.read symbol root name)) result self.old self.new }
     {
-        self.acts.do_read(symbol, root, name.as_slice())
+        Ok(self.acts.do_read(symbol, root, name.as_slice())?)
     }
 
     /// Declares the variables of a pattern.
+    #[tactic(auto, using(crate::proofs::Stops::fault_stops))]
     pub(crate) fn declare(&mut self, symbol: u32, name: Pattern, kind: Kind) -> Result<(), Stop>
         ensures { Acts (acting (variables.declare symbol name kind)) result self.old self.new }
     {
-        self.acts.do_declare(symbol, name.as_slice(), kind)
+        Ok(self.acts.do_declare(symbol, name.as_slice(), kind)?)
     }
 
     /// The text of a suffix, as a string.
+    #[tactic(auto, using(crate::proofs::Stops::fault_stops))]
     pub(crate) fn suffix_string(&self, suffix: Suffix) -> Result<Value, Stop>
         ensures { ActsValue (acting (suffixes.suffix_string suffix)) result self.now self.now }
     {
-        self.acts.suffix_string(suffix.as_slice())
+        Ok(self.acts.suffix_string(suffix.as_slice())?)
     }
 
     /// The units of a subscript, which must be a known number.
+    #[tactic(auto, using(crate::proofs::Stops::fault_stops))]
     pub(crate) fn subscript(&self, value: Value) -> Result<i32, Stop>
         requires { reach value ≤ unknowns self.now }
         ensures { Acts (acting (suffixes.subscript value)) result self.now self.now }
     {
-        self.acts.subscript(&value)
+        Ok(self.acts.subscript(&value)?)
     }
 
     /// The value of an internal.
-    pub(crate) fn internal_value(&self, k: u32) -> Result<Value, Stop>
-        ensures { ActsValue (internal_number k) result self.now self.now }
+    pub(crate) fn internal_value(&self, k: u32) -> Value
+        ensures exact { internal_number k self.now ≡ Ok (result, self.now) }
+        ensures within { reach result ≤ unknowns self.now }
     {
-        Ok(self.acts.internal(k))
+        self.acts.internal(k)
+    }
+
+    /// The bytes of a string token, as a value.
+    #[tactic(auto, using(crate::proofs::Stops::fault_stops))]
+    pub(crate) fn string_token(&self, bytes: SharedSlice<u8>) -> Result<Value, Stop>
+        ensures { ActsValue (acting (suffixes.string_token bytes)) result self.now self.now }
+    {
+        Ok(self.acts.string_token(bytes)?)
     }
 
     /// Shows a value.
+    #[tactic(auto, using(crate::proofs::Stops::fault_stops))]
     pub(crate) fn show(&mut self, value: Value) -> Result<(), Stop>
         requires { reach value ≤ unknowns self.old }
         ensures { Acts (acting (lines.show value)) result self.old self.new }
     {
-        self.acts.do_show(&value)
+        Ok(self.acts.do_show(&value)?)
     }
 
     /// Says a string, as a message, as the error that ends the run, or as help.
-    pub(crate) fn say(&mut self, command: Command, value: Value) -> Result<(), Stop>
+    #[tactic(auto, using(crate::proofs::Stops::fault_stops))]
+    pub(crate) fn speak(&mut self, speech: Speech, value: Value) -> Result<(), Stop>
         requires { reach value ≤ unknowns self.old }
-        ensures { Acts (acting (spoken_by command value)) result self.old self.new }
+        ensures { Acts (acting (lines.speak speech value)) result self.old self.new }
     {
-        match command {
-            Command::Message => self.acts.do_message(&value),
-            Command::Errmessage => self.acts.do_errmessage(&value),
-            _ => self.acts.do_errhelp(&value),
-        }
+        Ok(self.acts.do_speak(speech, &value)?)
     }
 
     /// Gives a side of a chain a value.
-    pub(crate) fn give(&mut self, side: &Side, value: &Value) -> Result<(), Stop>
+    #[tactic(auto, using(crate::proofs::Stops::fault_stops))]
+    pub(crate) fn give(&mut self, side: &ChainSide, value: &Value) -> Result<(), Stop>
         requires side { reach_of_side side.now ≤ unknowns self.old }
         requires value { reach value.now ≤ unknowns self.old }
         ensures { Acts (acting (gets side.now value.now)) result self.old self.new }
     {
         match side {
-            Side::Value(left) => self.acts.do_equation(left, value),
-            Side::Target(target) => self.acts.do_assign(target, value),
+            ChainSide::Value(left) => Ok(self.acts.do_equation(left, value)?),
+            ChainSide::Target(target) => Ok(self.acts.do_assign(target, value)?),
         }
     }
 
     /// Begins a group.
+    #[tactic(auto, using(crate::proofs::Stops::fault_stops))]
     pub(crate) fn open_group(&mut self) -> Result<(), Stop>
         ensures acts { Acts (acting (change groups.open_group)) result self.old self.new }
         ensures hand { self.new.front ≡ self.old.front }
     {
-        self.acts.do_begin_group()
+        Ok(self.acts.do_begin_group()?)
     }
 
     /// Ends a group.
+    #[tactic(auto, using(crate::proofs::Stops::fault_stops))]
     pub(crate) fn end_group(&mut self) -> Result<(), Stop>
         ensures { Acts (acting (change groups.end_group)) result self.old self.new }
     {
-        self.acts.do_end_group()
+        Ok(self.acts.do_end_group()?)
     }
 
-    /// Makes a symbol a new tag, up to the end of the group.
-    pub(crate) fn save(&mut self, symbol: u32) -> Result<(), Stop>
-        ensures { Acts (acting (change (groups.save symbol))) result self.old self.new }
+    /// Does a command with a symbol.
+    #[tactic(auto, using(crate::proofs::Stops::fault_stops))]
+    pub(crate) fn with_each(&mut self, command: SymbolCommand, symbol: u32) -> Result<(), Stop>
+        ensures { Acts (acting (change (groups.with_each command symbol))) result self.old self.new }
     {
-        self.acts.do_save(symbol)
+        Ok(self.acts.do_symbol(command, symbol)?)
     }
 
     /// Gives a symbol the meaning of another.
-    pub(crate) fn let_symbol(&mut self, symbol: u32, other: u32) -> Result<(), Stop>
-        ensures { Acts (acting (change (groups.let_symbol symbol other))) result self.old self.new }
+    pub(crate) fn let_symbol(&mut self, symbol: u32, other: u32)
+        ensures exact { self.new ≡ record self.old { acts = groups.let_symbol symbol other self.old.acts } }
+        ensures grown { unknowns self.old ≤ unknowns self.new }
     {
-        self.acts.do_let(symbol, other)
+        self.acts.do_let(symbol, other);
     }
 
     /// Makes two symbols a pair of delimiters.
-    pub(crate) fn delimiters(&mut self, left: u32, right: u32) -> Result<(), Stop>
-        ensures { Acts (acting (change (groups.delimiters left right))) result self.old self.new }
+    pub(crate) fn delimiters(&mut self, left: u32, right: u32)
+        ensures exact { self.new ≡ record self.old { acts = groups.delimiters left right self.old.acts } }
+        ensures grown { unknowns self.old ≤ unknowns self.new }
     {
-        self.acts.do_delimiters(left, right)
-    }
-
-    /// Makes a symbol a new internal.
-    pub(crate) fn new_internal(&mut self, symbol: u32) -> Result<(), Stop>
-        ensures { Acts (acting (change (groups.new_internal symbol))) result self.old self.new }
-    {
-        self.acts.do_new_internal(symbol)
+        self.acts.do_delimiters(left, right);
     }
 
     /// Gives an internal a known value, up to the end of the group.
+    #[tactic(auto, using(crate::proofs::Stops::fault_stops))]
     pub(crate) fn interim(&mut self, k: u32, value: Value) -> Result<(), Stop>
         requires { reach value ≤ unknowns self.old }
         ensures { Acts (acting (groups.interim k value)) result self.old self.new }
     {
-        self.acts.do_interim(k, &value)
+        Ok(self.acts.do_interim(k, &value)?)
     }
 }

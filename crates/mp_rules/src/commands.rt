@@ -1,13 +1,14 @@
 //! Statements that begin with a word.
 
-ghost use Rattle.std.specs.Prelude.{◌≡◌, ◌≤◌};
-ghost use Rattle.mp_rules.specs.Rules.{ShowList, SaveList, NewinternalList, TypeList, Interim, LetSymbol, DelimiterPair, Spoken, CommandOf};
-ghost use Rattle.mp_rules.specs.Meaning.{Means, Uses, the};
+ghost use Rattle.std.specs.Prelude.{◌≡◌};
+ghost use Rattle.mp_rules.specs.Rules.{ShowList, SymbolList, TypeList, CommandRest};
+ghost use Rattle.mp_rules.specs.Contracts.{Means, Uses};
+ghost use Rattle.mp_rules.specs.Meaning.{the};
 ghost use Rattle.mp_rules.specs.Rules as rules;
 
 use crate::evaluator::Evaluator;
 use crate::front::{Front, Raw};
-use mp_values::{Command, Kind, Meaning, Stop, Word};
+use mp_values::{Command, Kind, Meaning, Speech, Stop, SymbolCommand, Word};
 
 impl Evaluator {
     /// Expressions to be shown; each is shown when the front behind it was got.
@@ -17,24 +18,8 @@ impl Evaluator {
         ensures { Means ShowList result self.old self.new }
     {
         'expressions: loop {
-            let value = self.expression()?;
+            let value = self.next_expression()?;
             self.show(value)?;
-            match self.sign() {
-                Front::Word(_, Word::Comma) => self.next_front()?,
-                _ => return Ok(()),
-            }
-        }
-    }
-
-    /// Symbols that become new tags.
-    #[tactic(auto, using(crate::proofs::Cases::save_list_is))]
-    fn save_list(&mut self) -> Result<(), Stop>
-        ensures { Means SaveList result self.old self.new }
-    {
-        'symbols: loop {
-            let symbol = self.raw_symbol()?;
-            self.save(symbol)?;
-            self.next_front()?;
             match self.sign() {
                 Front::Word(_, Word::Comma) => {}
                 _ => return Ok(()),
@@ -42,14 +27,14 @@ impl Evaluator {
         }
     }
 
-    /// Symbols that become new internals.
-    #[tactic(auto, using(crate::proofs::Cases::newinternal_list_is))]
-    fn newinternal_list(&mut self) -> Result<(), Stop>
-        ensures { Means NewinternalList result self.old self.new }
+    /// Symbols, with each of which the command is done before the front behind it is got.
+    #[tactic(auto, using(crate::proofs::Cases::symbol_list_is))]
+    fn symbol_list(&mut self, command: SymbolCommand) -> Result<(), Stop>
+        ensures { Means (SymbolList command) result self.old self.new }
     {
         'symbols: loop {
             let symbol = self.raw_symbol()?;
-            self.new_internal(symbol)?;
+            self.with_each(command, symbol)?;
             self.next_front()?;
             match self.sign() {
                 Front::Word(_, Word::Comma) => {}
@@ -90,24 +75,22 @@ impl Evaluator {
         }
     }
 
-    #[tactic(auto, using(crate::proofs::Cases::let_equal_is))]
     fn let_equal(&mut self) -> Result<(), Stop>
-        ensures { Means LetSymbol result self.old self.new }
+        ensures { Uses (rules.let_equal the) result self.old self.new }
     {
         let symbol = self.raw_symbol()?;
         self.equals()?;
         let other = self.raw_symbol()?;
-        self.let_symbol(symbol, other)?;
+        self.let_symbol(symbol, other);
         self.next_front()
     }
 
-    #[tactic(auto, using(crate::proofs::Cases::delimiter_pair_is))]
     fn delimiter_pair(&mut self) -> Result<(), Stop>
-        ensures { Means DelimiterPair result self.old self.new }
+        ensures { Uses (rules.delimiter_pair the) result self.old self.new }
     {
         let left = self.raw_symbol()?;
         let right = self.raw_symbol()?;
-        self.delimiters(left, right)?;
+        self.delimiters(left, right);
         self.next_front()
     }
 
@@ -132,54 +115,38 @@ impl Evaluator {
     }
 
     #[cycle(eval)]
-    #[tactic(auto, using(crate::proofs::Cases::interim_value_is))]
     fn interim_value(&mut self) -> Result<(), Stop>
-        ensures { Means Interim result self.old self.new }
+        ensures { Uses (rules.interim_value the) result self.old self.new }
     {
         let k = self.internal_name()?;
         self.assign_sign()?;
-        self.next_front()?;
-        let value = self.expression()?;
+        let value = self.next_expression()?;
         self.interim(k, value)
     }
 
     /// A string to be said, when the front behind it was got.
     #[cycle(eval)]
-    #[tactic(auto, using(crate::proofs::Cases::spoken_is))]
-    fn spoken(&mut self, command: Command) -> Result<(), Stop>
-        ensures { Means (Spoken command) result self.old self.new }
+    fn spoken(&mut self, speech: Speech) -> Result<(), Stop>
+        ensures { Uses (rules.spoken the speech) result self.old self.new }
     {
-        self.next_front()?;
-        let value = self.expression()?;
-        self.say(command, value)
-    }
-
-    #[cycle(eval)]
-    fn show_command(&mut self) -> Result<(), Stop>
-        ensures { Uses (rules.show_command the) result self.old self.new }
-    {
-        self.next_front()?;
-        self.show_list()
+        let value = self.next_expression()?;
+        self.speak(speech, value)
     }
 
     /// The rest of a statement, with the word that it begins with in hand.
     #[cycle(eval)]
-    #[tactic(auto, using(crate::proofs::Cases::command_of_is))]
-    pub(crate) fn command(&mut self, command: Command) -> Result<(), Stop>
-        ensures { Means (CommandOf command) result self.old self.new }
+    #[tactic(auto, using(crate::proofs::Cases::command_rest_is))]
+    pub(crate) fn command_rest(&mut self, command: Command) -> Result<(), Stop>
+        ensures { Means (CommandRest command) result self.old self.new }
     {
         match command {
-            Command::Show => self.show_command(),
-            Command::Save => self.save_list(),
+            Command::Show => self.show_list(),
+            Command::Symbols(command) => self.symbol_list(command),
             Command::Interim => self.interim_value(),
             Command::Let => self.let_equal(),
             Command::Delimiters => self.delimiter_pair(),
-            Command::Newinternal => self.newinternal_list(),
-            Command::Message | Command::Errmessage | Command::Errhelp => self.spoken(command),
-            Command::Batchmode
-            | Command::Scrollmode
-            | Command::Nonstopmode
-            | Command::Errorstopmode => self.next_front(),
+            Command::Speech(speech) => self.spoken(speech),
+            Command::Mode(_) => self.next_front(),
             Command::Type(kind) => self.type_list(kind),
         }
     }

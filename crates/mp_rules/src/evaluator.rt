@@ -1,38 +1,35 @@
 //! The evaluator and its single steps.
 
-ghost use Rattle.std.specs.Prelude.{◌≡◌, ◌≤◌, false, None};
-ghost use Rattle.mp_values.specs.Outcome.{IsStop};
+ghost use Rattle.std.specs.Prelude.{◌≡◌, ◌≤◌, [], None, OnErr};
+ghost use Rattle.mp_values.specs.Outcome.{IsStop, Yields};
 ghost use Rattle.mp_rules.specs.Fronts.{stood, raw_stood, refused_front, refused_raw};
-ghost use Rattle.mp_rules.specs.Meaning.{Acts, ActsValue, Took};
+ghost use Rattle.mp_rules.specs.Contracts.{Acts, Took};
+ghost use Rattle.mp_rules.specs.Starts.{start_on, whole};
+ghost use Rattle.mp_rules.specs.Meaning.{the};
 ghost use Rattle.mp_rules.specs.Steps as steps;
-ghost use Rattle.mp_rules.specs.Text.{items_of};
-ghost use Rattle.mp_rules.specs.declared.front.Front.TheVariants as front;
 
 use crate::front::{Front, Raw};
 use mp_acts::State;
+use mp_files::Sources;
+use mp_input::Input;
 use mp_report::{Cap, Place, SourceError};
-use mp_scaled::SharedSlice;
-use mp_tokens::{Token, Tokens};
-use mp_values::{Item, Stop, Value, Word};
+use mp_scaled::{NoMemory, SharedSlice};
+use mp_values::{Pending, Secondary, Stop, Word};
 use std::alloc::Global;
 use std::marker::Model;
 
 /// So many primaries may be read inside one another.
 const NESTING_LIMIT: u32 = 100;
 
-/// A run over the tokens of one file: what is left to read, and what statements act on. Contracts see its machine.
+/// A run over a text: what is left to read, and what statements act on. Contracts see its machine.
 #[derive(Drop)]
 pub struct Evaluator {
     pub(crate) alloc: Global,
-    tokens: Tokens,
-    file: u32,
-    // how many tokens were taken, and whether the file's end was
-    at: usize,
-    ended: bool,
+    sources: Sources,
+    input: Input,
     front: Front,
     held: Option<Front>,
     string: Option<SharedSlice<u8>>,
-    last: Place,
     steps: u64,
     budget: u64,
     nesting: u32,
@@ -40,52 +37,56 @@ pub struct Evaluator {
 }
 
 impl Model for Evaluator {
-    ghost use Rattle.std.specs.Prelude.{◌≤◌, length, drop};
+    ghost use Rattle.std.specs.Prelude.{◌≤◌, map, unwrap_or, []};
     ghost use Rattle.mp_rules.specs.Machine.{Machine};
-    ghost use Rattle.mp_rules.specs.Text.{items_of};
 
     ghost Value = { Machine };
 
     ghost view = { λ r. record {
-      text = items_of r.file (drop r.at r.tokens) r.ended;
+      sources = r.sources;
+      asked = map (λ k. k.name) r.sources;
+      text = r.input.text;
       front = r.front;
       held = r.held;
-      string = r.string;
-      last = r.last;
+      string = unwrap_or r.string [];
+      last = r.input.last;
       steps = r.steps;
       budget = r.budget;
       nesting = r.nesting;
       acts = r.acts;
     } };
 
-    ghost invariant = { λ r. (r.at ≤ length r.tokens) × (r.steps ≤ r.budget) };
+    ghost invariant = { λ r. r.steps ≤ r.budget };
+}
+
+/// What a run leaves.
+#[derive(Drop)]
+pub struct Finished {
+    pub sources: Sources,
+    /// The items that were taken.
+    pub steps: u64,
+    /// The state that statements acted on.
+    pub acts: State,
 }
 
 impl Evaluator {
-    /// An evaluator at the start of the tokens of file 1.
-    pub(crate) fn new(alloc: Global, tokens: Tokens, acts: State, budget: u64) -> Evaluator
-        ensures { result ≡ record {
-          text = items_of 1 tokens false;
-          front = front.EndOfText;
-          held = None;
-          string = None;
-          last = record { file = 0; line = 0 };
-          steps = 0;
-          budget = budget;
-          nesting = 0;
-          acts = acts;
-        } }
+    /// An evaluator at the start of a text. Each source was asked for once.
+    pub fn new(
+        alloc: Global,
+        sources: Sources,
+        input: Input,
+        acts: State,
+        budget: u64,
+    ) -> Evaluator
+        ensures { result ≡ start_on sources input.text input.last acts budget }
     {
         Evaluator {
             alloc,
-            tokens,
-            file: 1,
-            at: 0,
-            ended: false,
+            sources,
+            input,
             front: Front::EndOfText,
             held: None,
             string: None,
-            last: Place { file: 0, line: 0 },
             steps: 0,
             budget,
             nesting: 0,
@@ -93,54 +94,60 @@ impl Evaluator {
         }
     }
 
-    /// The state that statements acted on, and how many items were taken.
-    pub(crate) fn finish(self) -> (State, u64)
-        ensures acts { result.0 ≡ self.acts }
-        ensures steps { result.1 ≡ self.steps }
-        ensures within { result.1 ≤ self.budget }
+    /// Reads the text to its end.
+    #[tactic(auto)]
+    pub fn run(&mut self) -> Result<(), Stop>
+        ensures meaning { Yields result self.new (whole the self.old) }
+        ensures kept { self.new.budget ≡ self.old.budget }
+    {
+        self.next_front()?;
+        self.statements()
+    }
+
+    /// What the run leaves.
+    pub fn finish(self) -> Finished
+        ensures sources { result.sources ≡ self.sources }
+        ensures steps { result.steps ≡ self.steps }
+        ensures acts { result.acts ≡ self.acts }
+        ensures within { result.steps ≤ self.budget }
     {
         let Evaluator {
             alloc: _,
-            tokens: _,
-            file: _,
-            at: _,
-            ended: _,
+            sources,
+            input: _,
             front: _,
             held: _,
             string: _,
-            last: _,
             steps,
             budget: _,
             nesting: _,
             acts,
         } = self;
-        (acts, steps)
+        Finished {
+            sources,
+            steps,
+            acts,
+        }
     }
 
-    /// One step: the item at the front of the text.
-    #[tactic(auto, unfolding(crate::specs::Steps::take_item))]
-    pub(crate) fn take(&mut self) -> Result<Item, Stop>
+    /// One step: what is first in the text.
+    #[tactic(auto, unfolding(crate::specs::Steps::take_first))]
+    pub(crate) fn take(&mut self) -> Result<Option<Pending>, Stop>
         ensures took { Took result self.old self.new }
         ensures front { self.new.front ≡ self.old.front }
         ensures held { self.new.held ≡ self.old.held }
     {
-        let item = match self.tokens.as_slice().get(self.at) {
-            Some(token) => Item::of(self.file, token)?,
-            None if self.ended => return Ok(Item::EndOfText),
-            None => Item::FileEnd,
-        };
-        if self.steps >= self.budget {
-            return Err(Stop::OutOfSteps);
+        if self.steps < self.budget {
+            let taken = self.input.take()?;
+            if taken.is_some() {
+                self.steps += 1;
+            }
+            Ok(taken)
+        } else if self.input.is_over() {
+            Ok(None)
+        } else {
+            Err(Stop::OutOfSteps)
         }
-        self.steps += 1;
-        match &item {
-            Item::FileEnd => self.ended = true,
-            _ => self.at += 1,
-        }
-        if let Item::LineEnd(place) = &item {
-            self.last = *place;
-        }
-        Ok(item)
     }
 
     /// The front in hand.
@@ -165,13 +172,14 @@ impl Evaluator {
         self.string = Some(bytes);
     }
 
-    /// The string in hand, as a value.
-    pub(crate) fn string(&mut self) -> Result<Value, Stop>
-        ensures { ActsValue steps.string_in_hand result self.old self.new }
+    /// The bytes of the string in hand.
+    pub(crate) fn string_in_hand(&mut self) -> Result<SharedSlice<u8>, Stop>
+        ensures acts { Acts steps.string_in_hand result self.old self.new }
+        ensures hand { self.new.front ≡ self.old.front }
     {
         match self.string.take() {
-            Some(bytes) => Ok(Value::Text(bytes)),
-            None => Err(self.unexpected(b"primary")),
+            Some(bytes) => Ok(bytes),
+            None => Ok(SharedSlice::from_vec(Vec::new(self.alloc))?),
         }
     }
 
@@ -188,28 +196,21 @@ impl Evaluator {
         ensures { self.new ≡ steps.hold slash self.old }
     {
         self.held = Some(self.front);
-        self.front = Front::Word(slash, Word::Slash);
+        self.front = Front::Word(slash, Word::Secondary(Secondary::Over));
     }
 
     /// The place of an error: the first line end that is left, else the last that was taken.
-    pub(crate) fn place(&self) -> Place
+    pub fn place(&self) -> Place
         ensures { result ≡ steps.place_of self.now }
     {
-        for token in &self.tokens.as_slice()[self.at..] {
-            if let Token::LineEnd(line) = token {
-                return Place {
-                    file: self.file,
-                    line: *line,
-                };
-            }
-        }
-        self.last
+        self.input.place()
     }
 
     /// One more primary is read.
     #[tactic(auto, unfolding(crate::specs::Steps::enter))]
     pub(crate) fn enter(&mut self) -> Result<(), Stop>
-        ensures { Acts steps.enter result self.old self.new }
+        ensures acts { Acts steps.enter result self.old self.new }
+        ensures hand { self.new.front ≡ self.old.front }
     {
         if self.nesting >= NESTING_LIMIT {
             return Err(Stop::Refused(SourceError::Limit(Cap::Nesting, NESTING_LIMIT)));

@@ -1,14 +1,15 @@
 //! Fronts and raw items: how the next one is got.
 
 ghost use Rattle.std.specs.Prelude.{◌≡◌};
-ghost use Rattle.mp_values.specs.Outcome.{Gives};
+ghost use Rattle.mp_values.specs.Outcome.{Yields};
 ghost use Rattle.mp_rules.specs.Fronts.{symbol_front};
-ghost use Rattle.mp_rules.specs.Rules.{NextFront, NextRaw, raw_symbol, symbol_in, taken_front};
-ghost use Rattle.mp_rules.specs.Meaning.{Means, Uses, the};
+ghost use Rattle.mp_rules.specs.Rules.{NextFront, NextRaw, raw_symbol};
+ghost use Rattle.mp_rules.specs.Contracts.{Means, Uses};
+ghost use Rattle.mp_rules.specs.Meaning.{the};
 
 use crate::evaluator::Evaluator;
 use crate::front::{Front, Raw};
-use mp_values::{Item, Meaning, Stop};
+use mp_values::{Item, Meaning, Pending, Stop};
 
 impl Evaluator {
     /// The next front comes to hand: line ends and file ends are passed over.
@@ -22,22 +23,22 @@ impl Evaluator {
         }
         'items: loop {
             match self.take()? {
-                Item::LineEnd(_) | Item::FileEnd => {}
-                Item::Number(value) => {
-                    self.see(Front::Number(value));
-                    return Ok(());
-                }
-                Item::Symbol(symbol) => {
+                Some(Pending::Item(Item::Symbol(symbol))) => {
                     let front = self.symbol_front(symbol)?;
                     self.see(front);
                     return Ok(());
                 }
-                Item::Text(bytes) => {
+                Some(Pending::Item(Item::Number(value))) => {
+                    self.see(Front::Number(value));
+                    return Ok(());
+                }
+                Some(Pending::Item(Item::Text(bytes))) => {
                     self.see_string(bytes);
                     return Ok(());
                 }
-                Item::Bad(cause) => return Err(Stop::from(cause)),
-                Item::EndOfText => {
+                Some(Pending::Item(Item::Bad(cause))) => return Err(Stop::from(cause)),
+                Some(_) => {}
+                None => {
                     self.see(Front::EndOfText);
                     return Ok(());
                 }
@@ -47,15 +48,15 @@ impl Evaluator {
 
     /// A symbol as a front; a word that is not built is refused.
     fn symbol_front(&self, symbol: u32) -> Result<Front, Stop>
-        ensures { Gives result self.now (symbol_front symbol self.now) }
+        ensures { Yields result self.now (symbol_front symbol self.now) }
     {
         match self.acts.symbol_meaning(symbol) {
-            Meaning::Word(word) => Ok(Front::Word(symbol, word)),
+            Meaning::Word(word) => Ok(Front::Word(symbol, *word)),
             Meaning::Unbuilt(word) => Err(Stop::not_built(self.alloc, word.name())),
             Meaning::NewTag | Meaning::Tag(_) => Ok(Front::Tag(symbol)),
-            Meaning::Internal(k) => Ok(Front::Internal(symbol, k)),
-            Meaning::Left(pair) => Ok(Front::Left(symbol, pair)),
-            Meaning::Right(pair) => Ok(Front::Right(symbol, pair)),
+            Meaning::Internal(k) => Ok(Front::Internal(symbol, *k)),
+            Meaning::Left(pair) => Ok(Front::Left(symbol, *pair)),
+            Meaning::Right(pair) => Ok(Front::Right(symbol, *pair)),
         }
     }
 
@@ -67,12 +68,12 @@ impl Evaluator {
         'items: loop {
             self.see(Front::EndOfText);
             match self.take()? {
-                Item::LineEnd(_) | Item::FileEnd => {}
-                Item::Number(_) => return Ok(Raw::Number),
-                Item::Symbol(symbol) => return Ok(Raw::Symbol(symbol)),
-                Item::Text(_) => return Ok(Raw::Text),
-                Item::Bad(cause) => return Err(Stop::from(cause)),
-                Item::EndOfText => return Ok(Raw::EndOfText),
+                Some(Pending::Item(Item::Symbol(symbol))) => return Ok(Raw::Symbol(symbol)),
+                Some(Pending::Item(Item::Number(_))) => return Ok(Raw::Number),
+                Some(Pending::Item(Item::Text(_))) => return Ok(Raw::Text),
+                Some(Pending::Item(Item::Bad(cause))) => return Err(Stop::from(cause)),
+                Some(_) => {}
+                None => return Ok(Raw::EndOfText),
             }
         }
     }

@@ -3,23 +3,41 @@
 ghost use Rattle.std.specs.Prelude.{◌≡◌, ◌≤◌};
 ghost use Rattle.mp_acts.specs.Reach.{reach};
 ghost use Rattle.mp_rules.specs.Machine.{unknowns};
-ghost use Rattle.mp_rules.specs.Rules.{Number, NumberThen, Factor, Variable, Parenthesis, Group, PrimaryInside, Primary, Leading};
-ghost use Rattle.mp_rules.specs.Meaning.{Means, ActsValue, ActsSide, UsesValue, the};
+ghost use Rattle.mp_rules.specs.Rules.{NumberThen, Factor, VariableName, Group, PrimaryInside, Primary, Leading};
+ghost use Rattle.mp_rules.specs.Contracts.{Means, ActsValue, ActsSide, GoesOn, UsesValue};
+ghost use Rattle.mp_rules.specs.Meaning.{the};
 ghost use Rattle.mp_rules.specs.Rules as rules;
 
+use crate::chain_side::ChainSide;
 use crate::evaluator::Evaluator;
 use crate::front::Front;
-use crate::side::Side;
 use mp_acts::Target;
-use mp_values::{Delimiters, Scaled, Stop, Value, Word};
+use mp_values::{Delimiters, Scaled, Secondary, Stop, Unary, Value, Word};
 use mp_vartree::Suffix;
 
 impl Evaluator {
+    /// The front that is got next, and the primary that it begins.
+    #[cycle(eval)]
+    pub(crate) fn next_primary(&mut self) -> Result<Value, Stop>
+        ensures { UsesValue (rules.next_primary the) result self.old self.new }
+    {
+        self.next_front()?;
+        self.primary()
+    }
+
+    /// The front that is got next, and the expression that it begins.
+    #[cycle(eval)]
+    pub(crate) fn next_expression(&mut self) -> Result<Value, Stop>
+        ensures { UsesValue (rules.next_expression the) result self.old self.new }
+    {
+        self.next_front()?;
+        self.expression()
+    }
+
     /// A number, or a fraction of two, and its product with what is directly behind it.
     #[cycle(eval)]
-    #[tactic(auto, using(crate::proofs::Cases::number_is))]
     fn number(&mut self, value: Scaled) -> Result<Value, Stop>
-        ensures { Means (Number value) result self.old self.new }
+        ensures { UsesValue (rules.number the value) result self.old self.new }
     {
         self.next_front()?;
         self.number_then(value)
@@ -33,7 +51,7 @@ impl Evaluator {
         ensures { Means (NumberThen value) result self.old self.new }
     {
         match self.sign() {
-            Front::Word(slash, Word::Slash) => {
+            Front::Word(slash, Word::Secondary(Secondary::Over)) => {
                 self.next_front()?;
                 match self.sign() {
                     Front::Number(under) => {
@@ -61,45 +79,41 @@ impl Evaluator {
         requires { reach value ≤ unknowns self.old }
         ensures { Means (Factor value) result self.old self.new }
     {
-        match self.sign() {
-            Front::Text
-            | Front::Tag(_)
-            | Front::Internal(_, _)
-            | Front::Left(_, _)
-            | Front::Word(_, Word::Begingroup | Word::Str) => self.times(value),
-            _ => Ok(value),
+        if self.sign().begins_factor() {
+            let right = self.primary()?;
+            self.secondary_of(Secondary::Times, value, right)
+        } else {
+            Ok(value)
         }
     }
 
+    /// The root of a tag, and the parts behind it.
     #[cycle(eval)]
-    fn times(&mut self, value: Value) -> Result<Value, Stop>
-        requires { reach value ≤ unknowns self.old }
-        ensures { ActsValue (rules.times the value) result self.old self.new }
+    #[tactic(auto, using(crate::proofs::Cases::variable_name_is))]
+    fn variable_name(&mut self, symbol: u32) -> Result<(u32, Suffix), Stop>
+        ensures { Means (VariableName symbol) result self.old self.new }
     {
-        let right = self.primary()?;
-        self.product(value, right)
+        let root = self.root_of(symbol)?;
+        self.next_front()?;
+        let parts = self.suffix()?;
+        Ok((root, parts))
     }
 
     /// A variable, which is read when the front behind its name was got.
     #[cycle(eval)]
-    #[tactic(auto, using(crate::proofs::Cases::variable_is))]
     fn variable(&mut self, symbol: u32) -> Result<Value, Stop>
-        ensures { Means (Variable symbol) result self.old self.new }
+        ensures { UsesValue (rules.variable the symbol) result self.old self.new }
     {
-        let root = self.root_of(symbol)?;
-        self.next_front()?;
-        let name = self.suffix()?;
-        self.read(symbol, root, name)
+        let (root, parts) = self.variable_name(symbol)?;
+        self.read(symbol, root, parts)
     }
 
     /// An expression in parentheses.
     #[cycle(eval)]
-    #[tactic(auto, using(crate::proofs::Cases::parenthesis_is))]
     fn parenthesis(&mut self, pair: Delimiters) -> Result<Value, Stop>
-        ensures { Means (Parenthesis pair) result self.old self.new }
+        ensures { UsesValue (rules.parenthesis the pair) result self.old self.new }
     {
-        self.next_front()?;
-        let value = self.expression()?;
+        let value = self.next_expression()?;
         self.closed(pair, value)
     }
 
@@ -131,37 +145,20 @@ impl Evaluator {
         Ok(value)
     }
 
+    /// A string, which is read when the front behind it was got.
     fn string_primary(&mut self) -> Result<Value, Stop>
-        ensures { ActsValue (rules.string_primary the) result self.old self.new }
+        ensures { UsesValue (rules.string_primary the) result self.old self.new }
     {
-        let value = self.string()?;
+        let bytes = self.string_in_hand()?;
         self.next_front()?;
-        Ok(value)
+        self.string_token(bytes)
     }
 
     fn internal(&mut self, k: u32) -> Result<Value, Stop>
         ensures { UsesValue (rules.internal the k) result self.old self.new }
     {
         self.next_front()?;
-        self.internal_value(k)
-    }
-
-    #[cycle(eval)]
-    fn plus_primary(&mut self) -> Result<Value, Stop>
-        ensures { UsesValue (rules.plus_primary the) result self.old self.new }
-    {
-        self.next_front()?;
-        let right = self.primary()?;
-        self.positive(right)
-    }
-
-    #[cycle(eval)]
-    fn minus_primary(&mut self) -> Result<Value, Stop>
-        ensures { UsesValue (rules.minus_primary the) result self.old self.new }
-    {
-        self.next_front()?;
-        let right = self.primary()?;
-        self.negated(right)
+        Ok(self.internal_value(k))
     }
 
     /// The text of a suffix.
@@ -174,6 +171,31 @@ impl Evaluator {
         self.suffix_string(name)
     }
 
+    /// What an operator makes of the primary behind it.
+    #[cycle(eval)]
+    fn applied(&mut self, operator: Unary) -> Result<Value, Stop>
+        ensures { UsesValue (rules.applied the operator) result self.old self.new }
+    {
+        let right = self.next_primary()?;
+        self.unary_of(operator, right)
+    }
+
+    /// What a primary is made of that begins with a word.
+    #[cycle(eval)]
+    fn word_primary(&mut self, symbol: u32, word: Word) -> Result<Value, Stop>
+        requires { front.Word symbol word ≡ self.old.front }
+        ensures { ActsValue (rules.primary_by the (front.Word symbol word)) result self.old self.new }
+    {
+        match word {
+            Word::Begingroup => self.group(),
+            Word::Str => self.str_primary(),
+            _ => match word.unary() {
+                Some(operator) => self.applied(operator),
+                None => Err(self.unexpected(b"primary")),
+            },
+        }
+    }
+
     /// What a primary is made of.
     #[cycle(eval)]
     #[tactic(auto, using(crate::proofs::Cases::primary_inside_is))]
@@ -184,14 +206,11 @@ impl Evaluator {
         match &sign {
             Front::Number(value) => self.number(*value),
             Front::Text => self.string_primary(),
-            Front::Word(_, Word::Plus) => self.plus_primary(),
-            Front::Word(_, Word::Minus) => self.minus_primary(),
-            Front::Word(_, Word::Begingroup) => self.group(),
-            Front::Word(_, Word::Str) => self.str_primary(),
+            Front::Word(symbol, word) => self.word_primary(*symbol, *word),
             Front::Tag(symbol) => self.variable(*symbol),
             Front::Internal(_, k) => self.internal(*k),
             Front::Left(_, pair) => self.parenthesis(*pair),
-            _ => Err(self.unexpected(b"primary")),
+            Front::Right(_, _) | Front::EndOfText => Err(self.unexpected(b"primary")),
         }
     }
 
@@ -207,56 +226,52 @@ impl Evaluator {
         Ok(read)
     }
 
-    fn leading_variable(&mut self, symbol: u32, root: u32, name: Suffix) -> Result<Side, Stop>
-        ensures { ActsSide (rules.leading_variable symbol root name) result self.old self.new }
+    fn variable_side(&mut self, symbol: u32, root: u32, name: Suffix) -> Result<ChainSide, Stop>
+        ensures { ActsSide (rules.variable_side symbol root name) result self.old self.new }
     {
         match self.sign() {
-            Front::Word(_, Word::Assign) => Ok(Side::Target(Target::Variable(root, name))),
+            Front::Word(_, Word::Assign) => Ok(ChainSide::Target(Target::Variable(root, name))),
             _ => {
                 let value = self.read(symbol, root, name)?;
-                Ok(Side::Value(value))
+                Ok(ChainSide::Value(value))
             }
         }
     }
 
-    fn leading_internal(&mut self, k: u32) -> Result<Side, Stop>
-        ensures { ActsSide (rules.leading_internal k) result self.old self.new }
+    fn internal_side(&mut self, k: u32) -> Result<ChainSide, Stop>
+        ensures { ActsSide (rules.internal_side k) result self.old self.new }
     {
         match self.sign() {
-            Front::Word(_, Word::Assign) => Ok(Side::Target(Target::Internal(k))),
-            _ => {
-                let value = self.internal_value(k)?;
-                Ok(Side::Value(value))
-            }
+            Front::Word(_, Word::Assign) => Ok(ChainSide::Target(Target::Internal(k))),
+            _ => Ok(ChainSide::Value(self.internal_value(k))),
         }
     }
 
     #[cycle(eval)]
-    fn leading_inside(&mut self) -> Result<Side, Stop>
-        ensures { ActsSide (rules.leading_inside the) result self.old self.new }
+    #[tactic(auto, using(crate::proofs::ChainLemmas::used_small))]
+    fn leading_inside(&mut self) -> Result<ChainSide, Stop>
+        ensures { GoesOn (rules.leading_inside the) 0 result self.old self.new }
     {
         match self.sign() {
             Front::Tag(symbol) => {
-                let root = self.root_of(symbol)?;
-                self.next_front()?;
-                let name = self.suffix()?;
-                self.leading_variable(symbol, root, name)
+                let (root, name) = self.variable_name(symbol)?;
+                self.variable_side(symbol, root, name)
             }
             Front::Internal(_, k) => {
                 self.next_front()?;
-                self.leading_internal(k)
+                self.internal_side(k)
             }
             _ => {
                 let value = self.primary_inside()?;
-                Ok(Side::Value(value))
+                Ok(ChainSide::Value(value))
             }
         }
     }
 
-    /// The first primary of a part of a chain: a variable or an internal with `:=` behind it is a target.
+    /// The first primary of a side of a chain: a variable or an internal with `:=` behind it is a target.
     #[cycle(eval)]
     #[tactic(auto, using(crate::proofs::Cases::leading_is))]
-    pub(crate) fn leading(&mut self) -> Result<Side, Stop>
+    pub(crate) fn leading(&mut self) -> Result<ChainSide, Stop>
         ensures { Means Leading result self.old self.new }
     {
         self.enter()?;

@@ -1,26 +1,16 @@
 //! Statements, and lists of them.
 
-ghost use Rattle.std.specs.Prelude.{◌≡◌, ◌≤◌};
-ghost use Rattle.mp_acts.specs.Reach.{reach};
-ghost use Rattle.mp_rules.specs.Machine.{unknowns};
+ghost use Rattle.std.specs.Prelude.{◌≡◌};
 ghost use Rattle.mp_rules.specs.Rules.{Statement, GroupStatements, Statements};
-ghost use Rattle.mp_rules.specs.Meaning.{Means, UsesValue, Acts, the};
+ghost use Rattle.mp_rules.specs.Contracts.{Means, Acts};
 ghost use Rattle.mp_rules.specs.Rules as rules;
 
 use crate::evaluator::Evaluator;
 use crate::front::Front;
 use mp_report::SourceError;
-use mp_values::{Command, Kind, Stop, Value, Word};
+use mp_values::{Kind, Stop, Value, Word};
 
 impl Evaluator {
-    #[cycle(eval)]
-    fn commanded(&mut self, command: Command) -> Result<Value, Stop>
-        ensures { UsesValue (rules.commanded the command) result self.old self.new }
-    {
-        self.command(command)?;
-        Ok(Value::Vacuous)
-    }
-
     /// A statement, up to the front that ends it. The answer is the value of an expression that stands alone.
     #[cycle(eval)]
     #[tactic(auto, using(crate::proofs::Cases::statement_is))]
@@ -31,16 +21,15 @@ impl Evaluator {
             Front::EndOfText | Front::Word(_, Word::Semicolon | Word::Endgroup | Word::End) => {
                 Ok(Value::Vacuous)
             }
-            Front::Word(_, Word::Command(command)) => self.commanded(command),
-            Front::Number(_)
-            | Front::Text
-            | Front::Tag(_)
-            | Front::Internal(_, _)
-            | Front::Left(_, _)
-            | Front::Word(_, Word::Plus | Word::Minus | Word::Begingroup | Word::Str) => {
-                self.chain()
+            Front::Word(_, Word::Command(command)) => {
+                self.command_rest(command)?;
+                Ok(Value::Vacuous)
             }
-            _ => Err(self.unexpected(b"statement")),
+            sign => if sign.begins_primary() {
+                self.chain()
+            } else {
+                Err(self.unexpected(b"statement"))
+            },
         }
     }
 
@@ -50,7 +39,7 @@ impl Evaluator {
     {
         match value {
             Value::Vacuous | Value::Text(_) | Value::Unset(Kind::Text, _) => Ok(()),
-            _ => Err(self.unexpected(b"=")),
+            Value::Unset(_, _) | Value::Numeric(_) | Value::Boolean(_) => Err(self.unexpected(b"=")),
         }
     }
 

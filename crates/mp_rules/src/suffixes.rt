@@ -1,7 +1,8 @@
 //! The parts of names behind a tag: of a variable's name, and of a declared one.
 
 ghost use Rattle.std.specs.Prelude.{◌≡◌, []};
-ghost use Rattle.mp_rules.specs.Meaning.{Means, Acts, Uses, the};
+ghost use Rattle.mp_rules.specs.Contracts.{Means, Acts, Uses};
+ghost use Rattle.mp_rules.specs.Meaning.{the};
 ghost use Rattle.mp_rules.specs.Rules as rules;
 
 use crate::evaluator::Evaluator;
@@ -40,8 +41,7 @@ impl Evaluator {
     fn bracketed(&mut self) -> Result<i32, Stop>
         ensures { Uses (rules.bracketed the) result self.old self.new }
     {
-        self.next_front()?;
-        let value = self.expression()?;
+        let value = self.next_expression()?;
         self.bracket_end()?;
         self.subscript(value)
     }

@@ -2,13 +2,14 @@
 use Rattle.std.proofs.Common.{◌≡◌, List, [], ◌∷◌, ◌++◌, reverse, refl, ap, Ok, Err}
 use Rattle.std.specs.Prelude.{max}
 use Rattle.std.proofs.lemmas.List.{reverse-append}
-use Rattle.mp_values.specs.Outcome.{Outcome, Rule, then}
+use Rattle.mp_values.specs.Outcome.{then}
+use Rattle.mp_values.specs.Outcome as act
 use Rattle.mp_values.specs.declared.value.Value.{Value}
 use Rattle.mp_acts.specs.State.{State}
 use Rattle.mp_rules.specs.Machine.{Machine}
-use Rattle.mp_rules.specs.Sides.{gets, settle, reach_of_side, reach_of_sides}
+use Rattle.mp_rules.specs.Chains.{gets, settle, reach_of_side, reach_of_sides}
 use Rattle.mp_rules.specs.Steps.{acting, in_machine}
-use Rattle.mp_rules.specs.declared.side.Side.{Side}
+use Rattle.mp_rules.specs.declared.chain_side.ChainSide.{ChainSide as Side}
 
 reverse_last : (xs : List Side) (x : Side) → reverse (xs ++ x ∷ []) ≡ x ∷ reverse xs
 reverse_last xs x = reverse-append xs (x ∷ [])
@@ -17,11 +18,11 @@ pub reach_last : (xs : List Side) (x : Side) → reach_of_sides (reverse (xs ++ 
 unfolding reach_of_sides
 reach_last xs x = ap reach_of_sides (reverse_last xs x)
 
-again : {A : Type 0} (s : Machine) (a : State) (o : Outcome State A) → in_machine s o ≡ in_machine (record s { acts = a }) o
+again : {A : Type 0} (s : Machine) (a : State) (o : act.Outcome State A) → in_machine s o ≡ in_machine (record s { acts = a }) o
 again s a (Ok x) = refl
 again s a (Err e) = refl
 
-acting-then : {A B : Type 0} (s : Machine) (o : Outcome State A) (f : A → Rule State B) → in_machine s ((then) o f) ≡ (then) (in_machine s o) (λ x. acting (f x))
+acting-then : {A B : Type 0} (s : Machine) (o : act.Outcome State A) (f : A → act.Rule State B) → in_machine s ((then) o f) ≡ (then) (in_machine s o) (λ x. acting (f x))
 acting-then s (Ok x) f = again s x.1 (f x.0 x.1)
 acting-then s (Err e) f = refl
 

@@ -1,0 +1,32 @@
+-- Where a run over a text starts, and the whole of it.
+use Rattle.std.specs.Prelude.{ℕ, List, [], None, map}
+use Rattle.mp_files.specs.declared.outside.Kept.{Kept}
+use Rattle.mp_report.specs.declared.place.Place.{Place}
+use Rattle.mp_values.specs.Outcome.{◌>>=◌, give}
+use Rattle.mp_values.specs.declared.turn.Pending.{Pending}
+use Rattle.mp_acts.specs.State.{State}
+use Rattle.mp_rules.specs.Machine.{Machine, Rule}
+use Rattle.mp_rules.specs.Rules.{Rules, NextFront, Statements}
+use Rattle.mp_rules.specs.declared.front.Front.TheVariants as front
+
+-- before the first front of a text, when these sources were asked for
+abbrev pub start_on : List Kept → List Pending → Place → State → ℕ → Machine
+start_on sources text last acts budget = record {
+  sources = sources;
+  asked = map (λ k. k.name) sources;
+  text = text;
+  front = front.EndOfText;
+  held = None;
+  string = [];
+  last = last;
+  steps = 0;
+  budget = budget;
+  nesting = 0;
+  acts = acts;
+}
+
+-- statements, from the first front on
+abbrev pub whole : Rules → Rule (Unit {0})
+whole rule = do
+  first ← rule NextFront
+  rule Statements
