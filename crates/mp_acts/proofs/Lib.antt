@@ -1,5 +1,4 @@
 pub mod ReachLemmas
-pub mod Ends
 pub mod EquationLemmas
 pub mod EventLemmas
 mod Examples

@@ -5,12 +5,18 @@ use Rattle.std.specs.Prelude.{ℕ, ℤ, pos, neg_ℤ, List, [], Result, Ok, Err,
 use Rattle.mp_pool.specs.declared.Term.{Term}
 use Rattle.mp_scaled.specs.Round.{make_scaled_of}
 use Rattle.mp_scaled.specs.declared.arith.Arith.{Arith}
+use Rattle.mp_report.specs.declared.error.SourceError.{SourceError}
 use Rattle.mp_forms.specs.Forms.{LinearForm, sum_of, product_of, quotient_of}
 use Rattle.mp_values.specs.Outcome.{Rule, ◌>>=◌, give, lift}
-use Rattle.mp_values.specs.Refusals.{stop_of_arith, not_known}
-use Rattle.mp_values.specs.declared.stop.Stop.{Stop}
+use Rattle.mp_values.specs.Refusals.{error_of_arith, not_known}
 use Rattle.mp_values.specs.declared.value.Value.{Value}
 use Rattle.mp_values.specs.declared.value.Value.TheVariants.{Numeric}
+use Rattle.mp_values.specs.declared.word.Unary.{Unary}
+use Rattle.mp_values.specs.declared.word.Unary.TheVariants as prefix
+use Rattle.mp_values.specs.declared.word.Secondary.{Secondary}
+use Rattle.mp_values.specs.declared.word.Secondary.TheVariants as factor
+use Rattle.mp_values.specs.declared.word.Tertiary.{Tertiary}
+use Rattle.mp_values.specs.declared.word.Tertiary.TheVariants as summand
 use Rattle.mp_acts.specs.State.{State}
 use Rattle.mp_acts.specs.Operands.{numeric, up_to_date, operand, known, or_refused}
 
@@ -30,17 +36,20 @@ operands op a b = do
   q ← up_to_date right
   give (p, q)
 
+-- the first number and that multiple of the second, in units of 2^-28, for that operator
+unfoldable pub combined : List ℕ → ℤ → Value → Value → Rule State LinearForm
+combined op f a b = do
+  both ← operands op a b
+  lift (or_refused (sum_of f both.0 both.1))
+
 unfoldable pub sum : Value → Value → Rule State Value
 sum a b = do
-  both ← operands (codes "+") a b
-  total ← lift (or_refused (sum_of one both.0 both.1))
+  total ← combined (codes "+") one a b
   give (Numeric total)
 
 -- the difference of two numbers, for that operator
-unfoldable pub difference_by : List ℕ → Value → Value → Rule State LinearForm
-difference_by op a b = do
-  both ← operands op a b
-  lift (or_refused (sum_of (neg_ℤ one) both.0 both.1))
+abbrev pub difference_by : List ℕ → Value → Value → Rule State LinearForm
+difference_by op a b = combined op (neg_ℤ one) a b
 
 unfoldable pub difference : Value → Value → Rule State Value
 difference a b = do
@@ -61,7 +70,7 @@ negated a = do
   give (Numeric negative)
 
 -- one of the factors must be known
-abbrev pub product_by : LinearForm → LinearForm → List Term → List Term → Result LinearForm Stop
+abbrev pub product_by : LinearForm → LinearForm → List Term → List Term → Result LinearForm SourceError
 product_by p q ts [] = or_refused (product_of q.constant p)
 product_by p q [] us = or_refused (product_of p.constant q)
 product_by p q ts us = Err (not_known (codes "*"))
@@ -79,10 +88,29 @@ quotient a b = do
   value ← lift (or_refused (quotient_of divisor both.0))
   give (Numeric value)
 
-abbrev pub or_stop : Result ℤ Arith → Result Value Stop
-or_stop (Ok units) = Ok (known_number units)
-or_stop (Err fault) = Err (stop_of_arith fault)
+-- THE OPERATORS
+
+-- an operator that stands before a primary
+unfoldable pub unary : Unary → Value → Rule State Value
+unary prefix.Plus a = positive a
+unary prefix.Minus a = negated a
+
+-- an operator that joins primaries
+unfoldable pub secondary : Secondary → Value → Value → Rule State Value
+secondary factor.Times a b = product a b
+secondary factor.Over a b = quotient a b
+
+-- an operator that joins secondaries
+unfoldable pub tertiary : Tertiary → Value → Value → Rule State Value
+tertiary summand.Plus a b = sum a b
+tertiary summand.Minus a b = difference a b
+
+-- NUMBER TOKENS
+
+abbrev pub number_or_error : Result ℤ Arith → Result Value SourceError
+number_or_error (Ok units) = Ok (known_number units)
+number_or_error (Err fault) = Err (error_of_arith fault)
 
 -- two number tokens with a slash between them
-unfoldable pub fraction : ℤ → ℤ → Result Value Stop
-fraction a b = or_stop (make_scaled_of a b)
+unfoldable pub fraction : ℤ → ℤ → Result Value SourceError
+fraction a b = number_or_error (make_scaled_of a b)

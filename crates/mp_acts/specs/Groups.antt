@@ -1,6 +1,6 @@
 -- Groups, and the statements that change what symbols mean.
 -- After Hobby, A User's Manual for MetaPost, sections 5 and 10, and Knuth, METAFONT: The Program, part 16.
-use Rattle.std.specs.Prelude.{ℕ, pos, List, [], ◌∷◌, ◌++◌, length, cond, nat_lt, codes}
+use Rattle.std.specs.Prelude.{◌≡◌, ℕ, zero, suc, pos, List, [], ◌∷◌, ◌++◌, length, cond, nat_lt, codes}
 use Rattle.mp_symbols.specs.Tables.{Table}
 use Rattle.mp_symbols.specs.Groups as table
 use Rattle.mp_symbols.specs.declared.saved.Saved.{Saved}
@@ -11,6 +11,8 @@ use Rattle.mp_values.specs.Outcome.{Rule, ◌>>=◌, change}
 use Rattle.mp_values.specs.declared.meaning.Meaning.{Meaning}
 use Rattle.mp_values.specs.declared.meaning.Meaning.TheVariants as meaning
 use Rattle.mp_values.specs.declared.value.Value.{Value}
+use Rattle.mp_values.specs.declared.word.SymbolCommand.{SymbolCommand}
+use Rattle.mp_values.specs.declared.word.SymbolCommand.TheVariants as word
 use Rattle.mp_acts.specs.State.{State, symbol_meaning}
 use Rattle.mp_acts.specs.Operands.{operand, known}
 use Rattle.mp_acts.specs.Variables.{without_root}
@@ -19,8 +21,8 @@ abbrev pub with_symbols : State → Table Meaning → State
 with_symbols s symbols = record s { symbols = symbols }
 
 -- a group begins
-abbrev pub open_group : State → State
-open_group s = with_symbols s (table.open_group s.symbols)
+abbrev pub begin_group : State → State
+begin_group s = with_symbols s (table.open_group s.symbols)
 
 -- the variables of a tag that is taken away are forgotten
 abbrev pub without_tag : Meaning → State → State
@@ -44,6 +46,18 @@ undo_group (entry ∷ older) s = undo_group older (undone entry (with_symbols s 
 -- a group ends
 unfoldable pub end_group : State → State
 end_group s = undo_group s.symbols.saved s
+
+-- the table after so many of the newest things that groups keep are undone
+unfoldable pub undone_times : ℕ → Table Meaning → Table Meaning
+undone_times zero symbols = symbols
+undone_times (suc n) symbols = (table.close_group (undone_times n symbols)).1
+
+-- what want of memory leaves of the end of a group: some things are undone, the newest first, and some variables of the
+-- tags that were taken away by it are forgotten. Slots, what is known of unknowns, events and lines stay
+pub record IsUndoneInPart (old new : State) : Type 0 where
+  pub times : ℕ
+  pub undone : new.symbols ≡ undone_times times old.symbols
+  pub rest : new ≡ record old { symbols = new.symbols; variables = new.variables; unknowns = record old.unknowns { names = new.unknowns.names } }
 
 -- a symbol becomes a new tag, up to the end of the group; a number past the symbols changes nothing
 unfoldable pub save : ℕ → State → State
@@ -69,6 +83,11 @@ unfoldable pub new_internal : ℕ → State → State
 new_internal symbol s =
     with_symbols s (table.with_symbol (record s.symbols { internals = s.symbols.internals ++ pos 0 ∷ [] })
     symbol (meaning.Internal (length s.symbols.internals)))
+
+-- what a word does to each symbol of its list
+abbrev pub with_each : SymbolCommand → ℕ → State → State
+with_each word.Save symbol s = save symbol s
+with_each word.Newinternal symbol s = new_internal symbol s
 
 -- the present value of an internal is kept for the end of the group; a number past the internals changes nothing
 abbrev pub with_kept : Table Meaning → ℕ → Table Meaning

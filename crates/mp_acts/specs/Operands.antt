@@ -3,10 +3,10 @@ use Rattle.std.specs.Prelude.{ℕ, ℤ, List, [], ◌∷◌, Option, None, Resul
 use Rattle.mp_pool.specs.declared.Term.{Term}
 use Rattle.mp_forms.specs.Forms.{LinearForm}
 use Rattle.mp_forms.specs.declared.fault.FormFault.{FormFault}
+use Rattle.mp_report.specs.declared.error.SourceError.{SourceError}
 use Rattle.mp_solver.specs.Reduction.{reduce_of}
 use Rattle.mp_values.specs.Outcome.{Rule, ◌>>=◌, give, halt, in_state}
-use Rattle.mp_values.specs.Refusals.{stop_of_form, wrong_type, not_known}
-use Rattle.mp_values.specs.declared.stop.Stop.{Stop}
+use Rattle.mp_values.specs.Refusals.{error_of_form, wrong_type, not_known}
 use Rattle.mp_values.specs.declared.value.Kind.TheVariants as kind
 use Rattle.mp_values.specs.declared.value.Value.{Value}
 use Rattle.mp_values.specs.declared.value.Value.TheVariants.{Numeric, Text, Unset}
@@ -35,9 +35,9 @@ text_by op v = halt (wrong_type op)
 abbrev pub text : List ℕ → Value → Rule State (List ℕ)
 text op v s = text_by op (settled s.slots v) s
 
-abbrev pub or_refused : Result LinearForm FormFault → Result LinearForm Stop
+abbrev pub or_refused : Result LinearForm FormFault → Result LinearForm SourceError
 or_refused (Ok p) = Ok p
-or_refused (Err fault) = Err (stop_of_form fault)
+or_refused (Err fault) = Err (error_of_form fault)
 
 -- a form in which each unknown that equations have solved for is replaced by what it equals
 abbrev pub up_to_date : LinearForm → Rule State LinearForm

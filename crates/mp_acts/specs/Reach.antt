@@ -11,6 +11,7 @@ use Rattle.mp_vartree.specs.Variables.{Variables}
 use Rattle.mp_vartree.specs.Laws.{held}
 use Rattle.mp_vartree.specs.declared.entry.Variable.{Variable}
 use Rattle.mp_vartree.specs.declared.names.Part.{Part}
+use Rattle.mp_acts.specs.declared.limits.TheConstants.{UNKNOWN_LIMIT}
 
 -- serials count from 1: no number of unknowns is enough for 0
 abbrev pub reach_of_serial : ℕ → ℕ
@@ -51,9 +52,9 @@ abbrev pub reach_of_known : Option LinearForm → ℕ
 reach_of_known None = 0
 reach_of_known (Some p) = reach_of_form p
 
--- the variables, the slots and the forms that unknowns equal speak of these unknowns alone; there are at most a million
+-- the variables, the slots and the forms that unknowns equal speak of these unknowns alone, and there are no more than can be made
 pub record AreWithin (unknowns : States) (variables : Variables) (slots : List (Option Value)) : Type 0 where
-  pub few : length unknowns ≤ 1000000
+  pub few : length unknowns ≤ UNKNOWN_LIMIT
   pub forms : All (λ known. reach_of_known known ≤ length unknowns) unknowns
   pub held : (name : List Part) → reach_of_variable (held variables name) ≤ length unknowns
   pub filled : All (λ slot. reach_of_slot slot ≤ length unknowns) slots

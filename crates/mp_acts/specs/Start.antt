@@ -2,27 +2,13 @@
 use Rattle.std.specs.Prelude.{ℕ, ℤ, pos, ◌+◌, List, [], ◌∷◌, ◌++◌, fold, map, length, codes}
 use Rattle.mp_symbols.specs.Names.{Names, with_name}
 use Rattle.mp_symbols.specs.Tables.{Table}
-use Rattle.mp_values.specs.Words.{name_of_word}
+use Rattle.mp_values.specs.Words.{words, name_of_word}
 use Rattle.mp_values.specs.declared.meaning.Meaning.{Meaning}
 use Rattle.mp_values.specs.declared.meaning.Meaning.TheVariants as meaning
-use Rattle.mp_values.specs.declared.value.Kind.TheVariants as kind
-use Rattle.mp_values.specs.declared.word.Command.TheVariants as command
 use Rattle.mp_values.specs.declared.word.Word.{Word}
 use Rattle.mp_values.specs.declared.word.Word.TheVariants as word
 use Rattle.mp_vartree.specs.Variables.{no_variables}
 use Rattle.mp_acts.specs.State.{State}
-
--- the words that are built
-abbrev pub words : List Word
-words =
-    word.Plus ∷ word.Minus ∷ word.Times ∷ word.Slash ∷ word.Comma ∷ word.Semicolon ∷ word.Equals ∷ word.Assign
-    ∷ word.LeftBracket ∷ word.RightBracket ∷ word.Str ∷ word.Begingroup ∷ word.Endgroup ∷ word.End
-    ∷ word.Command command.Show ∷ word.Command command.Save ∷ word.Command command.Interim ∷ word.Command command.Let
-    ∷ word.Command command.Delimiters ∷ word.Command command.Newinternal
-    ∷ word.Command command.Message ∷ word.Command command.Errmessage ∷ word.Command command.Errhelp
-    ∷ word.Command command.Batchmode ∷ word.Command command.Scrollmode ∷ word.Command command.Nonstopmode ∷ word.Command command.Errorstopmode
-    ∷ word.Command (command.Type kind.Boolean) ∷ word.Command (command.Type kind.Numeric) ∷ word.Command (command.Type kind.Text)
-    ∷ []
 
 -- types, pictures and figures
 abbrev pub drawing_words : List (List ℕ)
@@ -132,12 +118,13 @@ with_more_internals table more = record table {
 unfoldable pub first_symbols : Table Meaning
 first_symbols = record { names = with_entries [] first_entries; internals = map (λ internal. internal.1) first_internals; saved = [] }
 
--- no variables, no unknowns and no lines
+-- no variables, no unknowns, no events and no lines
 abbrev pub first_state : State
 first_state = record {
   symbols = first_symbols;
   variables = no_variables;
   slots = [];
   unknowns = record { states = []; names = [] };
+  events = [];
   lines = [];
 }

@@ -8,13 +8,13 @@ use Rattle.mp_forms.specs.Forms.{LinearForm}
 use Rattle.mp_report.specs.declared.error.Cap.TheVariants as cap
 use Rattle.mp_report.specs.declared.error.SourceError.TheVariants as error
 use Rattle.mp_values.specs.Outcome.{Rule, ◌>>=◌, give, halt}
-use Rattle.mp_values.specs.declared.stop.Stop.TheVariants.{Refused}
 use Rattle.mp_values.specs.declared.value.Value.{Value}
 use Rattle.mp_values.specs.declared.value.Value.TheVariants.{Numeric, Text}
 use Rattle.mp_vartree.specs.declared.names.Part.{Part}
 use Rattle.mp_vartree.specs.declared.names.Part.TheVariants as part
 use Rattle.mp_acts.specs.State.{State, symbol_name}
 use Rattle.mp_acts.specs.Operands.{up_to_date}
+use Rattle.mp_acts.specs.declared.limits.TheConstants.{TEXT_LIMIT}
 
 -- a symbol behind a symbol has a point before it
 abbrev pub point_behind : Option Part → List ℕ
@@ -49,24 +49,25 @@ suffix_text s parts = parts_text s None parts
 abbrev pub variable_name : State → ℕ → List Part → List ℕ
 variable_name s symbol parts = suffix_text s (part.Sym symbol ∷ parts)
 
--- the text of a suffix as a string, of at most 65536 bytes
-abbrev pub short_string : List ℕ → Rule State Value
-short_string bytes s =
-    if nat_le (length bytes) 65536
+-- a string of these bytes, whose number has a limit
+unfoldable pub string_token : List ℕ → Rule State Value
+string_token bytes s =
+    if nat_le (length bytes) TEXT_LIMIT
     then Ok (Text bytes, s)
-    else Err (Refused (error.Limit cap.Text 65536), s)
+    else Err (error.Limit cap.Text TEXT_LIMIT, s)
 
+-- the text of a suffix as a string
 unfoldable pub suffix_string : List Part → Rule State Value
-suffix_string parts s = short_string (suffix_text s parts) s
+suffix_string parts s = string_token (suffix_text s parts) s
 
 -- a subscript is a known number
 abbrev pub number_in : Value → Rule State LinearForm
 number_in (Numeric p) = give p
-number_in v = halt (Refused error.BadSubscript)
+number_in v = halt error.BadSubscript
 
 abbrev pub subscript_by : ℤ → List Term → Rule State ℤ
 subscript_by constant [] = give constant
-subscript_by constant (t ∷ ts) = halt (Refused error.BadSubscript)
+subscript_by constant (t ∷ ts) = halt error.BadSubscript
 
 unfoldable pub subscript : Value → Rule State ℤ
 subscript v = do

@@ -1,11 +1,12 @@
 -- Variables: their roots, their declarations, how they are read, and what is assigned.
 -- After Knuth, METAFONT: The Program, parts 15 and 43; nameless unknowns, and slots in the place of rings, are this project's own.
-use Rattle.std.specs.Prelude.{ℕ, pos, ◌-◌, Bool, true, false, cond, nat_le, ◌&&◌, List, [], ◌∷◌, ◌++◌, Option, Some, None, Result, Ok, Err, length, slice_set, codes}
+use Rattle.std.specs.Prelude.{◌≡◌, ◌⊎◌, ℕ, pos, ◌-◌, Bool, true, false, cond, nat_le, ◌&&◌, List, [], ◌∷◌, ◌++◌, Option, Some, None, Result, Ok, Err, length, slice_set, codes}
 use Rattle.std.specs.List.{fold}
 use Rattle.mp_forms.specs.Forms.{LinearForm}
 use Rattle.mp_solver.specs.States.{Unknowns, fresh_of}
 use Rattle.mp_solver.specs.declared.fresh.Fresh.{Fresh}
 use Rattle.mp_solver.specs.declared.fresh.Fresh.TheVariants.{Made, Limit}
+use Rattle.mp_solver.specs.Replay as event
 use Rattle.mp_report.specs.declared.error.Cap.TheVariants as cap
 use Rattle.mp_report.specs.declared.error.SourceError.TheVariants as error
 use Rattle.mp_symbols.specs.Groups.{with_symbol, with_internal}
@@ -13,11 +14,10 @@ use Rattle.mp_values.specs.Outcome.{Outcome, Rule, ◌>>=◌, give, change}
 use Rattle.mp_values.specs.Refusals.{wrong_type}
 use Rattle.mp_values.specs.declared.meaning.Meaning.{Meaning}
 use Rattle.mp_values.specs.declared.meaning.Meaning.TheVariants as meaning
-use Rattle.mp_values.specs.declared.stop.Stop.TheVariants.{Refused}
 use Rattle.mp_values.specs.declared.value.Kind.{Kind}
 use Rattle.mp_values.specs.declared.value.Kind.TheVariants as kind
 use Rattle.mp_values.specs.declared.value.Value.{Value}
-use Rattle.mp_values.specs.declared.value.Value.TheVariants.{Numeric, Unset}
+use Rattle.mp_values.specs.declared.value.Value.TheVariants.{Boolean, Numeric, Text, Unset, Vacuous}
 use Rattle.mp_vartree.specs.Kinds.{kind_of, is_kind}
 use Rattle.mp_vartree.specs.Variables as variables
 use Rattle.mp_vartree.specs.Variables.{Variables, variable_at, wanted_kind, made, made_at}
@@ -30,6 +30,7 @@ use Rattle.mp_acts.specs.Operands.{up_to_date, operand, known}
 use Rattle.mp_acts.specs.Suffixes.{variable_name}
 use Rattle.mp_acts.specs.declared.target.Target.{Target}
 use Rattle.mp_acts.specs.declared.target.Target.TheVariants as target
+use Rattle.mp_acts.specs.declared.limits.TheConstants.{UNKNOWN_LIMIT}
 
 -- ROOTS
 
@@ -62,23 +63,24 @@ with_variable made s root name v = record s { variables = variables.with_variabl
 abbrev pub read_anew : State → ℕ → List Part → Value → Outcome State Value
 read_anew s root name v = Ok (v, with_variable true s root name v)
 
--- the state after a wish for one more unknown
-abbrev pub with_fresh : State → Fresh × Unknowns → Fresh × State
-with_fresh s answer = (answer.0, record s { unknowns = answer.1 })
+-- the state with one more unknown, whose making is the newest event
+abbrev pub with_unknown : State → Unknowns → State
+with_unknown s unknowns = record s { unknowns = unknowns; events = s.events ++ event.Fresh ∷ [] }
 
 -- what comes of a wish for one more unknown, which a variable is to be
 abbrev pub made_unknown : State → ℕ → List Part → Fresh × Unknowns → Outcome State Value
-made_unknown s root name (Made serial, unknowns) = read_anew (record s { unknowns = unknowns }) root name (Numeric (unknown_form serial))
-made_unknown s root name (Limit, unknowns) = Err (Refused (error.Limit cap.Unknowns 1000000), s)
+made_unknown s root name (Made serial, unknowns) = read_anew (with_unknown s unknowns) root name (Numeric (unknown_form serial))
+made_unknown s root name (Limit, unknowns) = Err (error.Limit cap.Unknowns UNKNOWN_LIMIT, s)
 
 -- a variable gets a new slot, which is open
 abbrev pub made_slot : State → ℕ → List Part → Kind → Outcome State Value
 made_slot s root name kind = read_anew (record s { slots = s.slots ++ None ∷ [] }) root name (Unset kind (length s.slots))
 
--- a number becomes a new unknown of the variable's name, and any other variable gets a slot
+-- a number becomes a new unknown of the variable's name; what unknowns cannot stand for gets a slot
 abbrev pub made_value : ℕ → ℕ → List Part → Kind → Rule State Value
 made_value symbol root name kind.Numeric s = made_unknown s root name (fresh_of s.unknowns (variable_name s symbol name))
-made_value symbol root name kind s = made_slot s root name kind
+made_value symbol root name kind.Boolean s = made_slot s root name kind.Boolean
+made_value symbol root name kind.Text s = made_slot s root name kind.Text
 
 abbrev pub value_of : ℕ → ℕ → List Part → Option Variable → Rule State Value
 value_of symbol root name (Some x) s = Ok (x.value, s)
@@ -87,6 +89,11 @@ value_of symbol root name None s = made_value symbol root name (wanted_kind s.va
 -- the value of a variable of a root, whose tag that symbol is
 unfoldable pub read : ℕ → ℕ → List Part → Rule State Value
 read symbol root name s = value_of symbol root name (variable_at s.variables root name) s
+
+-- what want of memory leaves of a reading: the state as it was, or one with an unknown of the variable's name, which no
+-- value speaks of
+abbrev pub IsReadInPart : ℕ → List Part → State → State → Type 0
+IsReadInPart symbol name old new = (new ≡ old) ⊎ (new ≡ with_unknown old (fresh_of old.unknowns (variable_name old symbol name)).1)
 
 -- GIVING UP
 
@@ -114,18 +121,31 @@ without_root root s = giving_up s (variables.forget s.variables root) (made s.va
 
 -- DECLARATIONS
 
-abbrev pub declared_by : List ℕ → Result (Unit {0}) BadDeclaration × Variables → Rule State (Unit {0})
-declared_by serials (Ok x, variables) s = Ok (tt, giving_up s variables serials)
-declared_by serials (Err refused, variables) s = Err (Refused error.BadDeclaration, s)
+-- the root for the variables of a symbol that means this: the one that it has, or the next, which is used up
+abbrev pub root_for : Meaning → Rule State ℕ
+root_for (meaning.Tag root) s = Ok (root, s)
+root_for m s = Ok (s.variables.roots, record s { variables = variables.with_new_root s.variables })
 
-abbrev pub declare_root : List Shape → Kind → ℕ → Rule State (Unit {0})
-declare_root name kind root s = declared_by (made s.variables root name false) (variables.declare s.variables root name kind) s
+-- a symbol is the tag of a root
+abbrev pub with_tag : ℕ → ℕ → State → State
+with_tag symbol root s = record s { symbols = with_symbol s.symbols symbol (meaning.Tag root) }
 
--- the variables of a pattern get a type, and lose their values
+-- the symbol becomes a tag where the declaration is accepted
+abbrev pub declared_by : ℕ → ℕ → List ℕ → Result (Unit {0}) BadDeclaration × Variables → Rule State (Unit {0})
+declared_by symbol root serials (Ok x, variables) s = Ok (tt, with_tag symbol root (giving_up s variables serials))
+declared_by symbol root serials (Err refused, variables) s = Err (error.BadDeclaration, s)
+
+abbrev pub declare_root : ℕ → List Shape → Kind → ℕ → Rule State (Unit {0})
+declare_root symbol name kind root s = declared_by symbol root (made s.variables root name false) (variables.declare s.variables root name kind) s
+
+-- the variables of a pattern get a type, and lose their values. A declaration that is refused leaves the symbol and the
+-- variables, but for a root that may be used up
 unfoldable pub declare : ℕ → List Shape → Kind → Rule State (Unit {0})
-declare symbol name kind = do
-  root ← root_of symbol
-  declare_root name kind root
+declare symbol name kind s = (root_for (symbol_meaning s symbol) >>= declare_root symbol name kind) s
+
+-- the states differ by roots at most that were used up
+abbrev pub SameButRoots : State → State → Type 0
+SameButRoots old new = new ≡ record old { variables = record old.variables { roots = new.variables.roots } }
 
 -- ASSIGNMENTS
 
@@ -138,7 +158,10 @@ abbrev pub current : Value → Rule State Value
 current (Numeric p) = do
   q ← up_to_date p
   give (Numeric q)
-current v = give v
+current (Boolean b) = give (Boolean b)
+current (Text bytes) = give (Text bytes)
+current (Unset kind slot) = give (Unset kind slot)
+current Vacuous = give Vacuous
 
 -- the value of a variable is given up for another
 abbrev pub replaced : State → ℕ → List Part → Value → State

@@ -1,20 +1,24 @@
 //! Groups, and the statements that change what symbols mean.
 
-ghost use Rattle.std.specs.Prelude.{◌≡◌, ◌≤◌, ◌<◌, Ok, length, true, false, OnOk};
-ghost use Rattle.mp_values.specs.Outcome.{Gives, change};
+ghost use Rattle.std.specs.Prelude.{◌≡◌, ◌≤◌, ◌<◌, Ok, Err, length, true, false, OnOk};
+ghost use Rattle.mp_symbols.specs.Groups.{close_group};
+ghost use Rattle.mp_values.specs.Outcome.{Gives, IsWhole, change};
+ghost use Rattle.mp_values.specs.declared.fault.Fault.TheVariants.{NoMemory as WantOfMemory};
 ghost use Rattle.mp_acts.specs.State.{unknown_count};
 ghost use Rattle.mp_acts.specs.Reach.{reach};
 ghost use Rattle.mp_acts.specs.Groups as groups;
+ghost use Rattle.mp_acts.specs.Groups.{IsUndoneInPart};
 
 use crate::{State, table};
 use mp_scaled::NoMemory;
 use mp_symbols::Closed;
-use mp_values::{Delimiters, Meaning, Stop, Value};
+use mp_values::{Delimiters, Fault, Meaning, SymbolCommand, Value};
 
 impl State {
     /// Begins a group.
-    pub fn do_begin_group(&mut self) -> Result<(), Stop>
-        ensures exact { Gives result self.new (change groups.open_group self.old) }
+    pub fn do_begin_group(&mut self) -> Result<(), Fault>
+        ensures exact { Gives result self.new (change groups.begin_group self.old) }
+        ensures whole { IsWhole result self.old self.new }
         ensures counts { unknown_count self.old ≤ unknown_count self.new }
     {
         self.symbols.open_group()?;
@@ -24,20 +28,24 @@ impl State {
     /// Ends a group: what was changed for it is undone, the newest change first.
     ///
     /// Want of memory may leave the older ones.
-    pub fn do_end_group(&mut self) -> Result<(), Stop>
+    pub fn do_end_group(&mut self) -> Result<(), Fault>
         ensures exact { Gives result self.new (change groups.end_group self.old) }
+        ensures part { result ≡ Err WantOfMemory → IsUndoneInPart self.old self.new }
         ensures counts { unknown_count self.old ≤ unknown_count self.new }
     {
         'changes: while self.undo()? {}
         Ok(())
     }
 
-    /// Undoes the newest change of the group. The answer is no where the group has ended.
+    /// Undoes the newest change of the group. The answer is no where the group has ended. Want of memory may leave the
+    /// variables of a tag that was taken away.
     #[tactic(auto, unfolding(crate::specs::Groups::end_group, crate::specs::Groups::undo_group, crate::specs::Variables::without_root))]
     fn undo(&mut self) -> Result<bool, NoMemory>
         ensures more { result ≡ Ok true → groups.end_group self.new ≡ groups.end_group self.old }
         ensures last { result ≡ Ok false → self.new ≡ groups.end_group self.old }
         ensures fewer { result ≡ Ok true → length self.new.symbols.saved < length self.old.symbols.saved }
+        ensures symbols { self.new.symbols ≡ (close_group self.old.symbols).1 }
+        ensures rest { self.new ≡ record self.old { symbols = self.new.symbols; variables = self.new.variables; unknowns = record self.old.unknowns { names = self.new.unknowns.names } } }
         ensures counts { unknown_count self.old ≡ unknown_count self.new }
     {
         match self.symbols.close_group() {
@@ -53,6 +61,8 @@ impl State {
     /// Forgets the variables of a tag that is taken away.
     fn forget(&mut self, given_up: Meaning) -> Result<(), NoMemory>
         ensures exact { OnOk result (self.new ≡ groups.without_tag given_up self.old) }
+        ensures symbols { self.new.symbols ≡ self.old.symbols }
+        ensures rest { self.new ≡ record self.old { symbols = self.new.symbols; variables = self.new.variables; unknowns = record self.old.unknowns { names = self.new.unknowns.names } } }
         ensures counts { unknown_count self.new ≡ unknown_count self.old }
     {
         match given_up {
@@ -61,47 +71,33 @@ impl State {
         }
     }
 
-    /// Makes a symbol a new tag, up to the end of the group, and for good where no group is open. A symbol past the
-    /// table is left.
+    /// Does to a symbol what a word does to each symbol of its list: makes it a new tag up to the end of the group, and
+    /// for good where no group is open, or makes it a new internal of value 0. A symbol past the table is left.
+    pub fn do_symbol(&mut self, command: SymbolCommand, symbol: u32) -> Result<(), Fault>
+        ensures exact { Gives result self.new (change (groups.with_each command symbol) self.old) }
+        ensures whole { IsWhole result self.old self.new }
+        ensures counts { unknown_count self.old ≤ unknown_count self.new }
+    {
+        match command {
+            SymbolCommand::Save => self.save(symbol),
+            SymbolCommand::Newinternal => self.new_internal(symbol),
+        }
+    }
+
     #[tactic(auto, unfolding(crate::specs::Groups::save))]
-    pub fn do_save(&mut self, symbol: u32) -> Result<(), Stop>
+    fn save(&mut self, symbol: u32) -> Result<(), Fault>
         ensures exact { Gives result self.new (change (groups.save symbol) self.old) }
+        ensures whole { IsWhole result self.old self.new }
         ensures counts { unknown_count self.old ≤ unknown_count self.new }
     {
         table::save(&mut self.symbols, symbol)?;
         Ok(())
     }
 
-    /// Gives a symbol what another one means; a tag is not shared, but new.
-    #[tactic(auto, unfolding(crate::specs::Groups::let_symbol))]
-    pub fn do_let(&mut self, symbol: u32, other: u32) -> Result<(), Stop>
-        ensures exact { Gives result self.new (change (groups.let_symbol symbol other) self.old) }
-        ensures counts { unknown_count self.old ≤ unknown_count self.new }
-    {
-        let meaning = match self.symbol_meaning(other) {
-            Meaning::Tag(_) => Meaning::NewTag,
-            meaning => meaning,
-        };
-        table::set_meaning(&mut self.symbols, symbol, meaning);
-        Ok(())
-    }
-
-    /// Makes two symbols a pair of delimiters.
-    #[tactic(auto, unfolding(crate::specs::Groups::delimiters))]
-    pub fn do_delimiters(&mut self, left: u32, right: u32) -> Result<(), Stop>
-        ensures exact { Gives result self.new (change (groups.delimiters left right) self.old) }
-        ensures counts { unknown_count self.old ≤ unknown_count self.new }
-    {
-        let pair = Delimiters { left, right };
-        table::set_meaning(&mut self.symbols, left, Meaning::Left(pair));
-        table::set_meaning(&mut self.symbols, right, Meaning::Right(pair));
-        Ok(())
-    }
-
-    /// Makes a symbol a new internal, of value 0.
     #[tactic(auto, unfolding(crate::specs::Groups::new_internal))]
-    pub fn do_new_internal(&mut self, symbol: u32) -> Result<(), Stop>
+    fn new_internal(&mut self, symbol: u32) -> Result<(), Fault>
         ensures exact { Gives result self.new (change (groups.new_internal symbol) self.old) }
+        ensures whole { IsWhole result self.old self.new }
         ensures counts { unknown_count self.old ≤ unknown_count self.new }
     {
         let k = self.symbols.new_internal(0)?;
@@ -109,12 +105,34 @@ impl State {
         Ok(())
     }
 
+    /// Gives a symbol what another one means; a tag is not shared, but new. It takes no memory.
+    #[tactic(auto, unfolding(crate::specs::Groups::let_symbol))]
+    pub fn do_let(&mut self, symbol: u32, other: u32)
+        ensures exact { self.new ≡ groups.let_symbol symbol other self.old }
+        ensures counts { unknown_count self.old ≤ unknown_count self.new }
+    {
+        let meaning = copied(self.symbol_meaning(other));
+        table::set_meaning(&mut self.symbols, symbol, meaning);
+    }
+
+    /// Makes two symbols a pair of delimiters. It takes no memory.
+    #[tactic(auto, unfolding(crate::specs::Groups::delimiters))]
+    pub fn do_delimiters(&mut self, left: u32, right: u32)
+        ensures exact { self.new ≡ groups.delimiters left right self.old }
+        ensures counts { unknown_count self.old ≤ unknown_count self.new }
+    {
+        let pair = Delimiters { left, right };
+        table::set_meaning(&mut self.symbols, left, Meaning::Left(pair));
+        table::set_meaning(&mut self.symbols, right, Meaning::Right(pair));
+    }
+
     /// Gives an internal a known value, up to the end of the group: `WrongType`, `NotKnown`. A number past the
     /// internals is left.
     #[tactic(auto, unfolding(crate::specs::Groups::interim))]
-    pub fn do_interim(&mut self, k: u32, value: &Value) -> Result<(), Stop>
+    pub fn do_interim(&mut self, k: u32, value: &Value) -> Result<(), Fault>
         requires { reach value.now ≤ unknown_count self.old }
         ensures exact { Gives result self.new (groups.interim k value.now self.old) }
+        ensures whole { IsWhole result self.old self.new }
         ensures counts { unknown_count self.old ≤ unknown_count self.new }
     {
         let form = self.operand(b"interim", value)?;
@@ -122,5 +140,15 @@ impl State {
         table::keep_internal(&mut self.symbols, k)?;
         table::set_internal(&mut self.symbols, k, value);
         Ok(())
+    }
+}
+
+/// What a symbol gets that is let have this meaning.
+fn copied(meaning: &Meaning) -> Meaning
+    ensures { result ≡ groups.copied meaning.now }
+{
+    match meaning {
+        Meaning::Tag(_) => Meaning::NewTag,
+        _ => meaning.copy(),
     }
 }

@@ -1,8 +1,7 @@
 //! Operands: their types, brought up to date, known.
 
 ghost use Rattle.std.specs.Prelude.{◌≡◌, ◌≤◌, IfOk, IfSome, option_copied};
-ghost use Rattle.mp_values.specs.Outcome.{Gives, IsStop};
-ghost use Rattle.mp_values.specs.Refusals as refusals;
+ghost use Rattle.mp_values.specs.Outcome.{Gives};
 ghost use Rattle.mp_acts.specs.State.{unknown_count};
 ghost use Rattle.mp_acts.specs.Reach.{reach, reach_of_form};
 ghost use Rattle.mp_acts.specs.Operands as operands;
@@ -11,11 +10,11 @@ ghost use Rattle.mp_acts.specs.Arithmetic as arithmetic;
 use crate::State;
 use mp_forms::Form;
 use mp_scaled::SharedSlice;
-use mp_values::{Kind, Stop, Value};
+use mp_values::{Fault, Kind, Value};
 
 impl State {
     /// A form in which each unknown that equations have solved for is replaced by what it equals.
-    pub(crate) fn up_to_date(&self, form: &Form) -> Result<Form, Stop>
+    pub(crate) fn up_to_date(&self, form: &Form) -> Result<Form, Fault>
         requires { reach_of_form form.now ≤ unknown_count self.now }
         ensures exact { Gives result self.now (operands.up_to_date form.now self.now) }
         ensures within { IfOk result (λ p. reach_of_form p ≤ unknown_count self.now) }
@@ -25,14 +24,14 @@ impl State {
 
     /// The form of a number, brought up to date.
     #[tactic(auto, unfolding(crate::specs::Operands::operand))]
-    pub(crate) fn operand(&self, op: &[u8], value: &Value) -> Result<Form, Stop>
+    pub(crate) fn operand(&self, op: &[u8], value: &Value) -> Result<Form, Fault>
         requires { reach value.now ≤ unknown_count self.now }
         ensures exact { Gives result self.now (operands.operand op.now value.now self.now) }
         ensures within { IfOk result (λ p. reach_of_form p ≤ unknown_count self.now) }
     {
         match value {
             Value::Numeric(form) => self.up_to_date(form),
-            _ => Err(Stop::wrong_type(self.alloc, op)),
+            _ => Err(Fault::wrong_type(self.alloc, op)),
         }
     }
 
@@ -42,7 +41,7 @@ impl State {
         op: &[u8],
         left: &Value,
         right: &Value,
-    ) -> Result<(Form, Form), Stop>
+    ) -> Result<(Form, Form), Fault>
         requires left { reach left.now ≤ unknown_count self.now }
         requires right { reach right.now ≤ unknown_count self.now }
         ensures exact { Gives result self.now (arithmetic.operands op.now left.now right.now self.now) }
@@ -55,18 +54,18 @@ impl State {
                 let q = self.up_to_date(right)?;
                 Ok((p, q))
             }
-            _ => Err(Stop::wrong_type(self.alloc, op)),
+            _ => Err(Fault::wrong_type(self.alloc, op)),
         }
     }
 
     /// A number without unknowns, in units of 2^-16.
-    pub(crate) fn known(&self, op: &[u8], form: &Form) -> Result<i32, Stop>
+    pub(crate) fn known(&self, op: &[u8], form: &Form) -> Result<i32, Fault>
         ensures { Gives result self.now (operands.known op.now form.now self.now) }
     {
         if form.terms().is_empty() {
             Ok(form.constant())
         } else {
-            Err(Stop::not_known(self.alloc, op))
+            Err(Fault::not_known(self.alloc, op))
         }
     }
 
@@ -94,14 +93,14 @@ impl State {
     }
 
     /// The bytes of a string, shared; it must be known.
-    pub(crate) fn text(&self, op: &[u8], value: &Value) -> Result<SharedSlice<u8>, Stop>
+    pub(crate) fn text(&self, op: &[u8], value: &Value) -> Result<SharedSlice<u8>, Fault>
         requires { reach value.now ≤ unknown_count self.now }
         ensures { Gives result self.now (operands.text op.now value.now self.now) }
     {
         match self.settled(value) {
             Value::Text(bytes) => Ok(bytes.share()?),
-            Value::Unset(Kind::Text, _) => Err(Stop::not_known(self.alloc, op)),
-            _ => Err(Stop::wrong_type(self.alloc, op)),
+            Value::Unset(Kind::Text, _) => Err(Fault::not_known(self.alloc, op)),
+            _ => Err(Fault::wrong_type(self.alloc, op)),
         }
     }
 }

@@ -1,7 +1,8 @@
 //! The names of the language, with their meanings, and the state at the start of a run.
 
 ghost use Rattle.std.specs.Prelude.{◌≡◌, map, IfOk, OnOk};
-ghost use Rattle.mp_acts.specs.Start.{with_more_names, with_more_internals, delimiter_entries, words, unbuilt_words, first_internals, word_entry, unbuilt_entry, first_symbols, first_state};
+ghost use Rattle.mp_values.specs.Words.{words};
+ghost use Rattle.mp_acts.specs.Start.{with_more_names, with_more_internals, delimiter_entries, unbuilt_words, first_internals, word_entry, unbuilt_entry, first_symbols, first_state};
 
 use crate::State;
 use mp_scaled::{Bytes, NoMemory};
@@ -12,7 +13,8 @@ use mp_vartree::Vars;
 use std::alloc::Global;
 
 impl State {
-    /// The state at the start of a run: the names of the language, no variables, no unknowns and no lines.
+    /// The state at the start of a run: the names of the language, no variables, no unknowns, no events
+    /// and no lines.
     #[tactic(auto, using(crate::proofs::EventLemmas::no_events))]
     pub fn new(alloc: Global) -> Result<State, NoMemory>
         ensures { IfOk result (λ state. state ≡ first_state) }
@@ -20,10 +22,12 @@ impl State {
         Ok(State {
             alloc,
             symbols: first_symbols(alloc)?,
+            past: Meaning::NewTag,
             variables: Vars::new(alloc),
             slots: Vec::new(alloc),
             system: System::new(alloc),
             count: 0,
+            events: Vec::new(alloc),
             lines: Bytes::new(alloc),
         })
     }

@@ -1,9 +1,9 @@
 //! The state that statements act on.
 
-ghost use Rattle.std.specs.Prelude.{◌≡◌, length};
-ghost use Rattle.mp_solver.specs.Elimination.{forms_in};
-ghost use Rattle.mp_acts.specs.State.{unknown_count};
+ghost use Rattle.std.specs.Prelude.{◌≡◌};
+ghost use Rattle.mp_acts.specs.State.{made_unknowns, accepted_equations};
 
+use crate::event::Event;
 use mp_scaled::Bytes;
 use mp_solver::System;
 use mp_symbols::Symbols;
@@ -12,28 +12,33 @@ use mp_vartree::Vars;
 use std::alloc::Global;
 use std::marker::Model;
 
-/// What statements act on. Contracts see the symbols, the variables, the slots, the unknowns and the lines.
+/// What statements act on. Contracts see the symbols, the variables, the slots, the unknowns, the events and the lines.
 ///
-/// The variables and the slots speak of unknowns that there are, and the unknowns stand as the replay of the events so
-/// far leaves them.
+/// The variables and the slots speak of unknowns that there are, and the unknowns are what the events, and no others,
+/// have made of them.
 #[derive(Drop)]
 pub struct State {
     pub(crate) alloc: Global,
     pub(crate) symbols: Symbols<Meaning>,
+    /// What symbols past the table mean; it stands here to be lent.
+    pub(crate) past: Meaning,
     pub(crate) variables: Vars,
     /// What the slots of variables without a value were filled with.
     pub(crate) slots: Vec<Option<Value>>,
     pub(crate) system: System,
     /// The number of unknowns.
     pub(crate) count: u32,
+    /// What made the unknowns what they are, in order.
+    pub(crate) events: Vec<Event>,
     pub(crate) lines: Bytes,
 }
 
 impl Model for State {
-    ghost use Rattle.std.specs.Prelude.{◌≡◌, length};
+    ghost use Rattle.std.specs.Prelude.{◌≡◌, length, map};
+    ghost use Rattle.mp_values.specs.declared.meaning.Meaning.TheVariants.{NewTag};
     ghost use Rattle.mp_acts.specs.State.{State};
     ghost use Rattle.mp_acts.specs.Reach.{AreWithin};
-    ghost use Rattle.mp_acts.specs.Events.{HasEvents};
+    ghost use Rattle.mp_acts.specs.Events.{event_of, AreEventsOf};
 
     ghost Value = { State };
 
@@ -42,20 +47,14 @@ impl Model for State {
       variables = s.variables;
       slots = s.slots.items;
       unknowns = s.system;
+      events = map event_of s.events.items;
       lines = s.lines;
     } };
 
-    ghost invariant = { λ s. (s.count ≡ length s.system.states) × AreWithin s.system.states s.variables s.slots.items × HasEvents s.system };
+    ghost invariant = { λ s. (s.past ≡ NewTag) × (s.count ≡ length s.system.states) × AreWithin s.system.states s.variables s.slots.items × AreEventsOf (map event_of s.events.items) s.system };
 }
 
 impl State {
-    /// The lines so far, each with its end.
-    pub fn lines(&self) -> &[u8]
-        ensures { result.now ≡ self.now.lines }
-    {
-        self.lines.as_slice()
-    }
-
     /// The lines, each with its end.
     pub fn finish(self) -> Bytes
         ensures { result ≡ self.lines }
@@ -65,15 +64,15 @@ impl State {
 
     /// The number of unknowns that were made.
     pub fn unknowns(&self) -> u32
-        ensures { result ≡ unknown_count self.now }
+        ensures { result ≡ made_unknowns self.now }
     {
         self.count
     }
 
     /// The number of equations that were accepted.
     pub fn equations(&self) -> u64
-        ensures { result ≡ length (forms_in self.now.unknowns.states) }
+        ensures { result ≡ accepted_equations self.now }
     {
-        self.system.changes() - u64::from(self.count)
+        self.events.len() as u64 - u64::from(self.count)
     }
 }

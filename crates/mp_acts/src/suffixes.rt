@@ -8,27 +8,34 @@ ghost use Rattle.mp_acts.specs.Reach.{reach};
 ghost use Rattle.mp_acts.specs.Suffixes as suffixes;
 
 use crate::State;
+use crate::limits::TEXT_LIMIT;
 use crate::texts::push_scaled;
 use mp_report::{Cap, SourceError};
 use mp_scaled::{Bytes, NoMemory, SharedSlice};
-use mp_values::{Stop, Value};
+use mp_values::{Fault, Value};
 use mp_vartree::Part;
 
-/// A string has at most so many bytes.
-const TEXT_LIMIT: usize = 65536;
-
 impl State {
+    /// A string of these bytes: `Limit` where they are more than 65536.
+    #[tactic(auto, unfolding(crate::specs::Suffixes::string_token))]
+    pub fn string_token(&self, bytes: SharedSlice<u8>) -> Result<Value, Fault>
+        ensures exact { Gives result self.now (suffixes.string_token bytes self.now) }
+        ensures within { IfOk result (λ v. reach v ≤ unknown_count self.now) }
+    {
+        if bytes.as_slice().len() > TEXT_LIMIT as usize {
+            return Err(Fault::Refused(SourceError::Limit(Cap::Text, TEXT_LIMIT)));
+        }
+        Ok(Value::Text(bytes))
+    }
+
     /// The text of a suffix as a string: `Limit` where it has more than 65536 bytes.
     #[tactic(auto, unfolding(crate::specs::Suffixes::suffix_string))]
-    pub fn suffix_string(&self, suffix: &[Part]) -> Result<Value, Stop>
+    pub fn suffix_string(&self, suffix: &[Part]) -> Result<Value, Fault>
         ensures exact { Gives result self.now (suffixes.suffix_string suffix.now self.now) }
         ensures within { IfOk result (λ v. reach v ≤ unknown_count self.now) }
     {
         let text = self.suffix_text(suffix)?;
-        if text.as_slice().len() > TEXT_LIMIT {
-            return Err(Stop::Refused(SourceError::Limit(Cap::Text, TEXT_LIMIT as u32)));
-        }
-        Ok(Value::Text(SharedSlice::from_vec(text.into_vec())?))
+        self.string_token(SharedSlice::from_vec(text.into_vec())?)
     }
 
     fn suffix_text(&self, suffix: &[Part]) -> Result<Bytes, NoMemory>
@@ -83,7 +90,7 @@ impl State {
 
     /// The units of a subscript, which must be a known number: `BadSubscript`.
     #[tactic(auto, unfolding(crate::specs::Suffixes::subscript))]
-    pub fn subscript(&self, value: &Value) -> Result<i32, Stop>
+    pub fn subscript(&self, value: &Value) -> Result<i32, Fault>
         requires { reach value.now ≤ unknown_count self.now }
         ensures { Gives result self.now (suffixes.subscript value.now self.now) }
     {
@@ -93,10 +100,10 @@ impl State {
                 if form.terms().is_empty() {
                     Ok(form.constant())
                 } else {
-                    Err(Stop::Refused(SourceError::BadSubscript))
+                    Err(Fault::Refused(SourceError::BadSubscript))
                 }
             }
-            _ => Err(Stop::Refused(SourceError::BadSubscript)),
+            _ => Err(Fault::Refused(SourceError::BadSubscript)),
         }
     }
 }

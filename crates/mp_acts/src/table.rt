@@ -1,6 +1,6 @@
 //! The table of names at any number: past its symbols or internals nothing is read or changed.
 
-ghost use Rattle.std.specs.Prelude.{◌≡◌, [], pos, unwrap_or, cond, nat_lt, length, slice_get, OnOk};
+ghost use Rattle.std.specs.Prelude.{◌≡◌, [], pos, unwrap_or, cond, nat_lt, length, slice_get, OnOk, OnErr};
 ghost use Rattle.mp_symbols.specs.Names.{name_in, meaning_in};
 ghost use Rattle.mp_symbols.specs.Groups as table;
 ghost use Rattle.mp_values.specs.declared.meaning.Meaning.TheVariants.{NewTag};
@@ -21,14 +21,18 @@ pub(crate) fn name_of(symbols: &Symbols<Meaning>, symbol: u32) -> &[u8]
     }
 }
 
-/// The meaning of a symbol; past the table that of a new tag.
-pub(crate) fn meaning_of(symbols: &Symbols<Meaning>, symbol: u32) -> Meaning
-    ensures { result ≡ unwrap_or (meaning_in symbols.now.names symbol) NewTag }
+/// The meaning of a symbol, which is lent; past the table that other one.
+pub(crate) fn meaning_of<'a>(
+    symbols: &'a Symbols<Meaning>,
+    symbol: u32,
+    past: &'a Meaning,
+) -> &'a Meaning
+    ensures { result.now ≡ unwrap_or (meaning_in symbols.now.names symbol) past.now }
 {
     if symbols.has(symbol) {
-        symbols.meaning(symbol).copy()
+        symbols.meaning(symbol)
     } else {
-        Meaning::NewTag
+        past
     }
 }
 
@@ -44,7 +48,8 @@ pub(crate) fn set_meaning(symbols: &mut Symbols<Meaning>, symbol: u32, new: Mean
 
 /// Makes a symbol a new tag, up to the end of the group.
 pub(crate) fn save(symbols: &mut Symbols<Meaning>, symbol: u32) -> Result<(), NoMemory>
-    ensures { OnOk result (symbols.new ≡ cond (nat_lt symbol (length symbols.old.names)) (table.save symbols.old symbol NewTag) symbols.old) }
+    ensures ok { OnOk result (symbols.new ≡ cond (nat_lt symbol (length symbols.old.names)) (table.save symbols.old symbol NewTag) symbols.old) }
+    ensures err { OnErr result (symbols.new ≡ symbols.old) }
 {
     if symbols.has(symbol) {
         symbols.save(symbol, Meaning::NewTag)?;
@@ -74,7 +79,8 @@ pub(crate) fn set_internal(symbols: &mut Symbols<Meaning>, k: u32, value: i32)
 
 /// Keeps the present value of an internal for the end of the group.
 pub(crate) fn keep_internal(symbols: &mut Symbols<Meaning>, k: u32) -> Result<(), NoMemory>
-    ensures { OnOk result (symbols.new ≡ with_kept symbols.old k) }
+    ensures ok { OnOk result (symbols.new ≡ with_kept symbols.old k) }
+    ensures err { OnErr result (symbols.new ≡ symbols.old) }
 {
     if symbols.has_internal(k) {
         symbols.save_internal(k)?;

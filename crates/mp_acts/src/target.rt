@@ -3,7 +3,7 @@
 use mp_vartree::Suffix;
 
 /// What a value can be assigned to.
-#[derive(Debug, Drop)]
+#[derive(Drop)]
 pub enum Target {
     /// The variable of that root, with these parts behind its tag.
     Variable(u32, Suffix),

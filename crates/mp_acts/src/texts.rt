@@ -13,7 +13,7 @@ use itoa::Buffer;
 use mp_forms::Form;
 use mp_pool::Term;
 use mp_scaled::{Bytes, NoMemory, print_scaled};
-use mp_values::{Kind, Stop, Value};
+use mp_values::{Fault, Kind, Value};
 
 /// 1 as a multiple of 2^-16.
 const UNITY: u64 = 65536;
@@ -21,7 +21,7 @@ const UNITY: u64 = 65536;
 impl State {
     /// What is shown of a value.
     #[tactic(auto, unfolding(crate::specs::Texts::value_text))]
-    pub(crate) fn value_text(&self, value: &Value) -> Result<Bytes, Stop>
+    pub(crate) fn value_text(&self, value: &Value) -> Result<Bytes, Fault>
         requires { reach value.now ≤ unknown_count self.now }
         ensures { Gives result self.now (texts.value_text value.now self.now) }
     {
@@ -29,7 +29,7 @@ impl State {
     }
 
     /// What is shown of a value that is no filled slot.
-    fn settled_text(&self, value: &Value) -> Result<Bytes, Stop>
+    fn settled_text(&self, value: &Value) -> Result<Bytes, Fault>
         requires { reach value.now ≤ unknown_count self.now }
         ensures { Gives result self.now (texts.settled_text value.now self.now) }
     {

@@ -1,9 +1,10 @@
 //! Variables: their roots, their declarations, how they are read, and what is assigned.
 
-ghost use Rattle.std.specs.Prelude.{◌≡◌, ◌≤◌, true, [], ◌∷◌, ◌++◌, None, length, IfOk, IfSome, OnOk, OnErr};
+ghost use Rattle.std.specs.Prelude.{ℕ, ◌≡◌, ◌≤◌, ◌<◌, true, [], ◌∷◌, ◌++◌, None, Ok, Err, length, vec_len, vec_capacity, IfOk, IfSome, OnOk, OnErr};
 ghost use Rattle.std.specs.Option.{option_map};
 ghost use Rattle.mp_solver.specs.States.{fresh_of};
-ghost use Rattle.mp_values.specs.Outcome.{Gives, change};
+ghost use Rattle.mp_values.specs.Outcome.{Gives, IsWhole, change};
+ghost use Rattle.mp_values.specs.declared.fault.Fault.TheVariants.{NoMemory as WantOfMemory};
 ghost use Rattle.mp_values.specs.declared.meaning.Meaning.TheVariants.{NewTag};
 ghost use Rattle.mp_values.specs.declared.value.Value.TheVariants.{Numeric};
 ghost use Rattle.mp_vartree.specs.Kinds.{kind_of, is_kind};
@@ -12,18 +13,18 @@ ghost use Rattle.mp_acts.specs.State.{unknown_count, symbol_name, symbol_meaning
 ghost use Rattle.mp_acts.specs.Reach.{reach, reach_of_serial, reach_of_fresh};
 ghost use Rattle.mp_acts.specs.Arithmetic.{known_number};
 ghost use Rattle.mp_acts.specs.Variables as variables;
+ghost use Rattle.mp_acts.specs.Variables.{IsReadInPart, SameButRoots};
 
+use crate::event::Event;
+use crate::limits::UNKNOWN_LIMIT;
 use crate::{State, Target, table};
 use mp_forms::Form;
 use mp_report::{Cap, SourceError};
 use mp_scaled::NoMemory;
 use mp_solver::{Fresh, System};
-use mp_values::{Kind, Meaning, Stop, Value};
-use mp_vartree::{Part, Shape, Variable, has_kind};
+use mp_values::{Fault, Kind, Meaning, Value};
+use mp_vartree::{Part, Shape, Variable, has_kind, variables_are_a_map};
 use std::alloc::Global;
-
-/// So many unknowns can be made.
-const UNKNOWN_LIMIT: u32 = 1_000_000;
 
 impl State {
     /// The name of a symbol; a symbol past the table has the empty one.
@@ -33,11 +34,11 @@ impl State {
         table::name_of(&self.symbols, symbol)
     }
 
-    /// The meaning of a symbol; a symbol past the table is a new tag.
-    pub fn symbol_meaning(&self, symbol: u32) -> Meaning
-        ensures { result ≡ symbol_meaning self.now symbol }
+    /// The meaning of a symbol, which is lent; a symbol past the table is a new tag.
+    pub fn symbol_meaning(&self, symbol: u32) -> &Meaning
+        ensures { result.now ≡ symbol_meaning self.now symbol }
     {
-        table::meaning_of(&self.symbols, symbol)
+        table::meaning_of(&self.symbols, symbol, &self.past)
     }
 
     /// The value of an internal; past the internals it is 0.
@@ -52,19 +53,21 @@ impl State {
 
     /// The root of a tag; what has none gets the next, and is a tag from then on.
     #[tactic(auto, unfolding(crate::specs::Variables::root_of))]
-    pub fn root_of(&mut self, symbol: u32) -> Result<u32, Stop>
+    pub fn root_of(&mut self, symbol: u32) -> Result<u32, Fault>
         ensures exact { Gives result self.new (variables.root_of symbol self.old) }
+        ensures whole { IsWhole result self.old self.new }
         ensures counts { unknown_count self.new ≡ unknown_count self.old }
     {
         match self.symbol_meaning(symbol) {
-            Meaning::Tag(root) => Ok(root),
+            Meaning::Tag(root) => Ok(*root),
             _ => self.new_root(symbol),
         }
     }
 
     /// Makes a symbol the tag of variables that were never used before.
-    fn new_root(&mut self, symbol: u32) -> Result<u32, Stop>
+    fn new_root(&mut self, symbol: u32) -> Result<u32, Fault>
         ensures exact { Gives result self.new (variables.root_by symbol NewTag self.old) }
+        ensures whole { IsWhole result self.old self.new }
         ensures counts { unknown_count self.new ≡ unknown_count self.old }
     {
         let root = self.variables.new_root()?;
@@ -76,9 +79,12 @@ impl State {
     ///
     /// A number without a value becomes a new unknown of the variable's name, `Limit` where there are 1,000,000; any other
     /// variable without a value gets a new slot.
+    ///
+    /// Want of memory may leave an unknown of that name, with its event, which no value speaks of.
     #[tactic(auto, unfolding(crate::specs::Variables::read))]
-    pub fn do_read(&mut self, symbol: u32, root: u32, name: &[Part]) -> Result<Value, Stop>
+    pub fn do_read(&mut self, symbol: u32, root: u32, name: &[Part]) -> Result<Value, Fault>
         ensures exact { Gives result self.new (variables.read symbol root name.now self.old) }
+        ensures part { result ≡ Err WantOfMemory → IsReadInPart symbol name.now self.old self.new }
         ensures within { IfOk result (λ v. reach v ≤ unknown_count self.new) }
         ensures counts { unknown_count self.old ≤ unknown_count self.new }
     {
@@ -100,14 +106,16 @@ impl State {
     }
 
     /// Gives a variable an unknown or a slot of its own.
-    fn read_anew(&mut self, symbol: u32, root: u32, name: &[Part]) -> Result<Value, Stop>
+    fn read_anew(&mut self, symbol: u32, root: u32, name: &[Part]) -> Result<Value, Fault>
         ensures exact { Gives result self.new (variables.value_of symbol root name.now None self.old) }
+        ensures part { result ≡ Err WantOfMemory → IsReadInPart symbol name.now self.old self.new }
         ensures within { IfOk result (λ v. reach v ≤ unknown_count self.new) }
         ensures counts { unknown_count self.old ≤ unknown_count self.new }
     {
         match self.wanted_kind(root, name) {
             Kind::Numeric => self.new_unknown(symbol, root, name),
-            kind => self.new_slot(root, name, kind),
+            Kind::Boolean => self.new_slot(root, name, Kind::Boolean),
+            Kind::Text => self.new_slot(root, name, Kind::Text),
         }
     }
 
@@ -119,9 +127,10 @@ impl State {
     }
 
     /// Makes a variable a new unknown of its name.
-    fn new_unknown(&mut self, symbol: u32, root: u32, name: &[Part]) -> Result<Value, Stop>
+    fn new_unknown(&mut self, symbol: u32, root: u32, name: &[Part]) -> Result<Value, Fault>
         requires { wanted_kind self.old.variables root name.now ≡ Kind.Numeric }
         ensures exact { Gives result self.new (variables.made_value symbol root name.now Kind.Numeric self.old) }
+        ensures part { result ≡ Err WantOfMemory → IsReadInPart symbol name.now self.old self.new }
         ensures within { IfOk result (λ v. reach v ≤ unknown_count self.new) }
         ensures counts { unknown_count self.old ≤ unknown_count self.new }
     {
@@ -131,42 +140,61 @@ impl State {
                 let value = unknown_value(self.alloc, serial)?;
                 self.keep_made(root, name, value)
             }
-            Fresh::Limit => Err(Stop::Refused(SourceError::Limit(Cap::Unknowns, UNKNOWN_LIMIT))),
+            Fresh::Limit => Err(Fault::Refused(SourceError::Limit(Cap::Unknowns, UNKNOWN_LIMIT))),
         }
     }
 
-    /// One more unknown of that name, unless there are so many already.
+    /// One more unknown of that name, unless there are so many already. Its making is the newest event, for which there
+    /// is room before it.
     fn fresh_unknown(&mut self, name: &[u8]) -> Result<Fresh, NoMemory>
-        ensures exact { IfOk result (λ answer. (answer, self.new) ≡ variables.with_fresh self.old (fresh_of self.old.unknowns name.now)) }
+        ensures exact { IfOk result (λ answer. (answer, self.new.unknowns) ≡ fresh_of self.old.unknowns name.now) }
+        ensures made { (serial : ℕ) → result ≡ Ok (Fresh.Made serial) → self.new ≡ variables.with_unknown self.old self.new.unknowns }
+        ensures limit { result ≡ Ok Fresh.Limit → self.new ≡ self.old }
+        ensures err { OnErr result (self.new ≡ self.old) }
         ensures within { IfOk result (λ answer. reach_of_fresh answer ≤ unknown_count self.new) }
         ensures counts { unknown_count self.old ≤ unknown_count self.new }
     {
+        self.events.reserve(1)?;
         let answer = self.system.fresh(name)?;
         if let Fresh::Made(_) = answer {
             self.count += 1;
+            self.events.push_reserved(Event::Fresh);
         }
         Ok(answer)
     }
 
-    /// Gives a variable a new slot, which is open.
-    fn new_slot(&mut self, root: u32, name: &[Part], kind: Kind) -> Result<Value, Stop>
+    /// Gives a variable a new slot, which is open. There is room for the slot before the variable speaks of it.
+    fn new_slot(&mut self, root: u32, name: &[Part], kind: Kind) -> Result<Value, Fault>
         requires { wanted_kind self.old.variables root name.now ≡ kind }
         ensures exact { Gives result self.new (variables.made_slot self.old root name.now kind) }
+        ensures whole { IsWhole result self.old self.new }
         ensures within { IfOk result (λ v. reach v ≤ unknown_count self.new) }
         ensures counts { unknown_count self.old ≤ unknown_count self.new }
     {
-        let slot = add_slot(&mut self.slots)?;
-        self.keep_made(root, name, Value::Unset(kind, slot))
+        variables_are_a_map();
+        let slot = room_for_slot(&mut self.slots)?;
+        match self
+            .variables
+            .store_made(root, name, Value::Unset(kind, slot))?
+        {
+            Ok(()) => {
+                self.slots.push_reserved(None);
+                Ok(Value::Unset(kind, slot))
+            }
+            Err(_) => unreachable!(),
+        }
     }
 
     /// Gives a variable a value that was made for it.
-    fn keep_made(&mut self, root: u32, name: &[Part], value: Value) -> Result<Value, Stop>
+    fn keep_made(&mut self, root: u32, name: &[Part], value: Value) -> Result<Value, Fault>
         requires within { reach value ≤ unknown_count self.old }
         requires fits { is_kind (wanted_kind self.old.variables root name.now) (kind_of value) ≡ true }
         ensures exact { Gives result self.new (variables.read_anew self.old root name.now value) }
+        ensures whole { IsWhole result self.old self.new }
         ensures within { IfOk result (λ v. reach v ≤ unknown_count self.new) }
         ensures counts { unknown_count self.old ≤ unknown_count self.new }
     {
+        variables_are_a_map();
         let copy = value.copy(self.alloc)?;
         match self.variables.store_made(root, name, copy)? {
             Ok(()) => Ok(value),
@@ -176,27 +204,60 @@ impl State {
 
     /// Declares the variables of a pattern, which lose their values: `BadDeclaration` below the name of a macro.
     ///
-    /// A symbol that is no tag becomes one. The unknowns that the variables were have no names any more.
+    /// A symbol that is no tag becomes one where the declaration is accepted. The unknowns that the variables were have
+    /// no names any more. A refusal and want of memory may leave a root used up, and nothing else.
     #[tactic(auto, unfolding(crate::specs::Variables::declare))]
-    pub fn do_declare(&mut self, symbol: u32, name: &[Shape], kind: Kind) -> Result<(), Stop>
+    pub fn do_declare(&mut self, symbol: u32, name: &[Shape], kind: Kind) -> Result<(), Fault>
         ensures exact { Gives result self.new (variables.declare symbol name.now kind self.old) }
+        ensures part { result ≡ Err WantOfMemory → SameButRoots self.old self.new }
         ensures counts { unknown_count self.old ≤ unknown_count self.new }
     {
-        let root = self.root_of(symbol)?;
-        self.declare_root(root, name, kind)
+        let root = self.root_for(symbol)?;
+        self.declare_root(symbol, root, name, kind)
     }
 
-    fn declare_root(&mut self, root: u32, name: &[Shape], kind: Kind) -> Result<(), Stop>
-        ensures exact { Gives result self.new (variables.declare_root name.now kind root self.old) }
+    /// The root that a symbol has, or the next, which is used up.
+    fn root_for(&mut self, symbol: u32) -> Result<u32, Fault>
+        ensures exact { Gives result self.new (variables.root_for (symbol_meaning self.old symbol) self.old) }
+        ensures roots { SameButRoots self.old self.new }
+        ensures counts { unknown_count self.new ≡ unknown_count self.old }
+    {
+        match self.symbol_meaning(symbol) {
+            Meaning::Tag(root) => Ok(*root),
+            _ => Ok(self.next_root()?),
+        }
+    }
+
+    /// A root that was never given before.
+    fn next_root(&mut self) -> Result<u32, NoMemory>
+        ensures exact { IfOk result (λ root. Ok (root, self.new) ≡ variables.root_for NewTag self.old) }
+        ensures roots { SameButRoots self.old self.new }
+        ensures err { OnErr result (self.new ≡ self.old) }
+        ensures counts { unknown_count self.new ≡ unknown_count self.old }
+    {
+        self.variables.new_root()
+    }
+
+    fn declare_root(
+        &mut self,
+        symbol: u32,
+        root: u32,
+        name: &[Shape],
+        kind: Kind,
+    ) -> Result<(), Fault>
+        ensures exact { Gives result self.new (variables.declare_root symbol name.now kind root self.old) }
+        ensures whole { IsWhole result self.old self.new }
         ensures counts { unknown_count self.old ≤ unknown_count self.new }
     {
+        variables_are_a_map();
         let serials = self.variables.made(self.alloc, root, name, false)?;
         match self.variables.declare(root, name, kind)? {
             Ok(()) => {
                 self.give_up(serials.as_slice());
+                table::set_meaning(&mut self.symbols, symbol, Meaning::Tag(root));
                 Ok(())
             }
-            Err(_) => Err(Stop::Refused(SourceError::BadDeclaration)),
+            Err(_) => Err(Fault::Refused(SourceError::BadDeclaration)),
         }
     }
 
@@ -212,8 +273,10 @@ impl State {
     #[tactic(auto, unfolding(crate::specs::Variables::without_root))]
     pub(crate) fn forget_root(&mut self, root: u32) -> Result<(), NoMemory>
         ensures exact { OnOk result (self.new ≡ variables.without_root root self.old) }
+        ensures err { OnErr result (self.new ≡ self.old) }
         ensures counts { unknown_count self.new ≡ unknown_count self.old }
     {
+        variables_are_a_map();
         let serials = self.variables.made(self.alloc, root, &[], true)?;
         self.variables.forget(root);
         self.give_up(serials.as_slice());
@@ -224,9 +287,10 @@ impl State {
     ///
     /// The unknowns that were made for the variable have no names any more. Past the internals nothing is assigned.
     #[tactic(auto, unfolding(crate::specs::Variables::assign))]
-    pub fn do_assign(&mut self, to: &Target, value: &Value) -> Result<(), Stop>
+    pub fn do_assign(&mut self, to: &Target, value: &Value) -> Result<(), Fault>
         requires { reach value.now ≤ unknown_count self.old }
         ensures exact { Gives result self.new (variables.assign to.now value.now self.old) }
+        ensures whole { IsWhole result self.old self.new }
         ensures counts { unknown_count self.old ≤ unknown_count self.new }
     {
         match to {
@@ -235,9 +299,10 @@ impl State {
         }
     }
 
-    fn assign_internal(&mut self, k: u32, value: &Value) -> Result<(), Stop>
+    fn assign_internal(&mut self, k: u32, value: &Value) -> Result<(), Fault>
         requires { reach value.now ≤ unknown_count self.old }
         ensures exact { Gives result self.new (variables.assign_internal k value.now self.old) }
+        ensures whole { IsWhole result self.old self.new }
         ensures counts { unknown_count self.old ≤ unknown_count self.new }
     {
         let form = self.operand(b":=", value)?;
@@ -246,20 +311,21 @@ impl State {
         Ok(())
     }
 
-    fn assign_variable(&mut self, root: u32, name: &[Part], value: &Value) -> Result<(), Stop>
+    fn assign_variable(&mut self, root: u32, name: &[Part], value: &Value) -> Result<(), Fault>
         requires { reach value.now ≤ unknown_count self.old }
         ensures exact { Gives result self.new (variables.assign_variable root name.now value.now self.old) }
+        ensures whole { IsWhole result self.old self.new }
         ensures counts { unknown_count self.old ≤ unknown_count self.new }
     {
         if !has_kind(value, self.wanted_kind(root, name)) {
-            return Err(Stop::wrong_type(self.alloc, b":="));
+            return Err(Fault::wrong_type(self.alloc, b":="));
         }
         let value = self.current(value)?;
         self.replace(root, name, value)
     }
 
     /// The value once more, a number brought up to date.
-    fn current(&self, value: &Value) -> Result<Value, Stop>
+    fn current(&self, value: &Value) -> Result<Value, Fault>
         requires { reach value.now ≤ unknown_count self.now }
         ensures exact { Gives result self.now (variables.current value.now self.now) }
         ensures within { IfOk result (λ v. reach v ≤ unknown_count self.now) }
@@ -267,17 +333,21 @@ impl State {
     {
         match value {
             Value::Numeric(form) => Ok(Value::Numeric(self.up_to_date(form)?)),
-            _ => Ok(value.copy(self.alloc)?),
+            Value::Boolean(_) | Value::Text(_) | Value::Unset(..) | Value::Vacuous => {
+                Ok(value.copy(self.alloc)?)
+            }
         }
     }
 
     /// Gives a variable another value. The unknowns that were made for it have no names any more.
-    fn replace(&mut self, root: u32, name: &[Part], value: Value) -> Result<(), Stop>
+    fn replace(&mut self, root: u32, name: &[Part], value: Value) -> Result<(), Fault>
         requires within { reach value ≤ unknown_count self.old }
         requires fits { is_kind (wanted_kind self.old.variables root name.now) (kind_of value) ≡ true }
         ensures exact { Gives result self.new (change (λ s. variables.replaced s root name.now value) self.old) }
+        ensures whole { IsWhole result self.old self.new }
         ensures counts { unknown_count self.old ≤ unknown_count self.new }
     {
+        variables_are_a_map();
         let serials = self.variables.made_at(self.alloc, root, name)?;
         match self.variables.store(root, name, value)? {
             Ok(()) => {
@@ -298,16 +368,16 @@ fn unknown_value(alloc: Global, serial: u32) -> Result<Value, NoMemory>
     Ok(Value::Numeric(Form::unknown(alloc, serial)?))
 }
 
-/// Adds an open slot, and answers its number, where the numbers reach that far.
-fn add_slot(slots: &mut Vec<Option<Value>>) -> Result<u32, NoMemory>
+/// Makes room for one more slot, and answers its number, where the numbers reach that far.
+fn room_for_slot(slots: &mut Vec<Option<Value>>) -> Result<u32, NoMemory>
     ensures slot { IfOk result (λ slot. slot ≡ length slots.old.items) }
-    ensures added { OnOk result (slots.new.items ≡ slots.old.items ++ None ∷ []) }
-    ensures err { OnErr result (slots.new.items ≡ slots.old.items) }
+    ensures room { OnOk result (vec_len slots.new < vec_capacity slots.new) }
+    ensures same { slots.new.items ≡ slots.old.items }
 {
     let Ok(slot) = u32::try_from(slots.len()) else {
         return Err(NoMemory);
     };
-    slots.push(None)?;
+    slots.reserve(1)?;
     Ok(slot)
 }
 
