@@ -1,9 +1,16 @@
 -- On the entries of a stack.
-use Rattle.std.proofs.Common.{◌≡◌, ◌≤◌, ◌<◌, sym, refl, ap, ℕ, zero, suc, ◌+◌, List, [], ◌∷◌, ◌++◌, take, drop, length, get_or, set, append_assoc, append-nil, arith}
+use Rattle.std.proofs.Common.{◌≡◌, ◌≢◌, ◌↔◌, ◌∙◌, ◌≤◌, ◌<◌, sym, refl, ap, ℕ, zero, suc, ◌+◌, List, [], ◌∷◌, ◌++◌, take, drop, length, get_or, set, append_assoc, append-nil, arith}
 use Rattle.std.proofs.Math.ListN.{drop_of_length-le}
+use Rattle.mp_values.specs.declared.item.Item.{Item}
 use Rattle.mp_values.specs.declared.turn.Pending.{Pending}
 use Rattle.mp_input.specs.declared.entry.Entry.{Entry}
+use Rattle.mp_input.specs.Lines.{items_pending}
 use Rattle.mp_input.specs.Entries.{entry_items, left_of, IsPlain, AllPlain}
+
+-- where two lists together are empty, the first one is
+front_of_none : (xs ys : List Pending) → xs ++ ys ≡ [] → xs ≡ []
+front_of_none [] ys e = refl
+front_of_none (x ∷ xs) ys e = cc
 
 -- the stack at an entry
 pub left_of_at : (es : List Entry) (i : ℕ) (d : Entry) → i < length es
@@ -80,3 +87,12 @@ all_plain_push (x ∷ xs) e all p = (all.0, all_plain_push xs e all.1 p)
 -- the top changes, and stays plain as it was
 pub all_plain_set_top : (es : List Entry) (i : ℕ) (d e : Entry) → i + 1 ≡ length es → (IsPlain (get_or es i d) → IsPlain e) → AllPlain es → AllPlain (set es i e)
 all_plain_set_top es i d e h keeps all = all_plain_set es i e all (keeps (all_plain_at es i d (omega arith) all))
+
+-- no item is left exactly where none is pending
+pub none_pending : (items : List Item) → (items_pending items ≡ []) ↔ (items ≡ [])
+none_pending [] = (λ e. refl, λ e. refl)
+none_pending (x ∷ items) = (λ e. cc, λ e. cc)
+
+-- the top gives something, and so does the stack
+pub left_of_some : (es : List Entry) (i : ℕ) (d : Entry) → i + 1 ≡ length es → entry_items (get_or es i d) ≢ [] → left_of es ≢ []
+left_of_some es i d h some e = some (front_of_none (entry_items (get_or es i d)) (left_of (take i es)) (sym (left_of_top es i d h) ∙ e))

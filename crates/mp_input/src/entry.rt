@@ -1,6 +1,6 @@
 //! What was put in front of the text at once.
 
-ghost use Rattle.std.specs.Prelude.{◌≡◌, [], IsTrue, option_map};
+ghost use Rattle.std.specs.Prelude.{◌≡◌, ◌↔◌, [], IsTrue, option_map};
 ghost use Rattle.mp_input.specs.Entries.{entry_items, IsPlain};
 ghost use Rattle.mp_input.specs.Lines.{first_line};
 ghost use Rattle.mp_input.specs.Loops.{leave_loop};
@@ -41,10 +41,11 @@ impl Entry {
     }
 
     /// Whether nothing is left.
+    #[tactic(auto, using(crate::proofs::StackLemmas::none_pending))]
     pub(crate) fn is_over(&mut self) -> bool
         ensures same { entry_items self.new ≡ entry_items self.old }
         ensures plain { IsPlain self.old → IsPlain self.new }
-        ensures over { IsTrue result → entry_items self.old ≡ [] }
+        ensures over { IsTrue result ↔ (entry_items self.old ≡ []) }
     {
         match self {
             Entry::Text(text) => text.is_over(),

@@ -1,6 +1,6 @@
 //! The stack.
 
-ghost use Rattle.std.specs.Prelude.{◌≡◌, ◌≤◌, ◌+◌, [], ◌∷◌, ◌++◌, OnOk};
+ghost use Rattle.std.specs.Prelude.{◌≡◌, ◌↔◌, ◌≤◌, ◌+◌, [], ◌∷◌, ◌++◌, IsTrue, OnOk};
 ghost use Rattle.std.specs.Vec.{vec_len, vec_capacity};
 ghost use Rattle.mp_values.specs.Ends.{IsNoEnd};
 ghost use Rattle.mp_values.specs.Items.{file_items};
@@ -88,6 +88,23 @@ fn drop_over(entries: &mut Vec<Entry>)
     }
 }
 
+// Whether a stack of entries has nothing left. Entries that are used up are taken off on the way.
+#[tactic(auto, using(crate::proofs::StackLemmas::left_of_dropped, crate::proofs::StackLemmas::left_of_kept, crate::proofs::StackLemmas::left_of_some, crate::proofs::StackLemmas::all_plain_set_top, crate::proofs::StackLemmas::all_plain_take))]
+fn is_all_over(entries: &mut Vec<Entry>) -> bool
+    ensures over { IsTrue result ↔ (left_of entries.old.items ≡ []) }
+    ensures same { left_of entries.new.items ≡ left_of entries.old.items }
+    ensures plain { AllPlain entries.old.items → AllPlain entries.new.items }
+{
+    'entries: while !entries.is_empty() {
+        let top = entries.len() - 1;
+        if !entries[top].is_over() {
+            return false;
+        }
+        entries.truncate(top);
+    }
+    true
+}
+
 // The entry that has the first end of a line, and that end.
 #[tactic(auto, using(crate::proofs::SearchLemmas::line_down, crate::proofs::SearchLemmas::line_here, crate::proofs::StackLemmas::all_plain_at))]
 fn line_entry(entries: &[Entry]) -> Option<(usize, Place)>
@@ -143,6 +160,15 @@ impl Input {
             self.last = *place;
         }
         Ok(taken)
+    }
+
+    /// Whether nothing is left.
+    pub fn is_over(&mut self) -> bool
+        ensures over { IsTrue result ↔ (self.old.text ≡ []) }
+        ensures text { self.new.text ≡ self.old.text }
+        ensures last { self.new.last ≡ self.old.last }
+    {
+        is_all_over(&mut self.entries)
     }
 
     /// The place of an error: the first end of a line that is left, else the last that was taken.
