@@ -1,5 +1,5 @@
 -- On the sides of a chain: the last one gets the value first.
-use Rattle.std.proofs.Common.{◌≡◌, List, [], ◌∷◌, ◌++◌, reverse, refl, ap, Ok, Err}
+use Rattle.std.proofs.Common.{◌≡◌, ◌≤◌, List, [], ◌∷◌, ◌++◌, reverse, refl, ap, arith, Ok, Err}
 use Rattle.std.specs.Prelude.{max}
 use Rattle.std.proofs.lemmas.List.{reverse-append}
 use Rattle.mp_values.specs.Outcome.{then}
@@ -7,6 +7,8 @@ use Rattle.mp_values.specs.Outcome as act
 use Rattle.mp_values.specs.declared.value.Value.{Value}
 use Rattle.mp_acts.specs.State.{State}
 use Rattle.mp_rules.specs.Machine.{Machine}
+use Rattle.mp_rules.specs.Promises.{used_by_side}
+use Rattle.mp_rules.specs.declared.chain_side.ChainSide.TheVariants as side
 use Rattle.mp_rules.specs.Chains.{gets, settle, reach_of_side, reach_of_sides}
 use Rattle.mp_rules.specs.Steps.{acting, in_machine}
 use Rattle.mp_rules.specs.declared.chain_side.ChainSide.{ChainSide as Side}
@@ -43,3 +45,8 @@ reverse_push xs x = reverse_last xs x
 pub reach_none : reach_of_sides (reverse []) ≡ 0
 unfolding reach_of_sides
 reach_none = refl
+
+-- at most one front is used for certain
+pub used_small : (x : Side) → used_by_side x ≤ 1
+used_small (side.Target t) = omega arith
+used_small (side.Value v) = omega arith

@@ -38,7 +38,7 @@ use Rattle.mp_acts.specs.Arithmetic as act
 use Rattle.mp_acts.specs.Suffixes.{suffix_string, string_token, subscript}
 use Rattle.mp_acts.specs.Variables.{root_of, read, declare}
 use Rattle.mp_acts.specs.Lines.{show, speak}
-use Rattle.mp_acts.specs.Groups.{open_group, end_group, with_each, let_symbol, delimiters, interim}
+use Rattle.mp_acts.specs.Groups.{begin_group, end_group, with_each, let_symbol, delimiters, interim}
 use Rattle.mp_acts.specs.declared.target.Target.{Target}
 use Rattle.mp_acts.specs.declared.target.Target.TheVariants as target
 use Rattle.mp_rules.specs.Machine.{Machine, weight, held_weight, coming, left}
@@ -53,7 +53,7 @@ use Rattle.mp_rules.specs.declared.chain_side.ChainSide.{ChainSide as Side}
 use Rattle.mp_rules.specs.declared.chain_side.ChainSide.TheVariants as side
 use Rattle.mp_rules.specs.Rules.{Rules, What, NextFront, NextRaw, NumberThen, Factor, VariableName, Suffix, Group, PrimaryInside, Primary, Leading, SecondaryRest, Secondary, TertiaryRest, ExpressionFrom, Expression, ChainSide, ChainRest, Chain, ShowList, SymbolList, DeclaredName, TypeList, CommandRest, Statement, GroupStatements, Statements}
 use Rattle.mp_rules.specs.Rules.{shape_of, front_of_symbol, front_of_item, front_of, held_or_taken, next_front, raw_of_item, raw_of, next_raw, symbol_in, raw_symbol, next_primary, next_expression, factor_by, over_by, then_by, number, room_by, room_for_part, part_on, bracket_by, bracketed, suffix_by, variable_name, variable, are_pair, closed_if, closed_by, closed, parenthesis, group, string_primary, internal, str_primary, applied, applied_by, primary_by, primary, variable_side_by, internal_side_by, leading_by, leading, secondary_by, secondary, tertiary_by, expression_from, expression, side_from, chain_side, chain_on, lone_or_vacuous, chain_end, chain_by, chain, show_by, show_list, symbols_by, symbol_list, shape_on, empty_by, name_by, type_by, type_list, is_equals, equals_by, equals_in, raw_equals, let_equal, delimiter_pair, internal_in, assign_in, internal_name, assign_sign, interim_value, spoken, command_rest, chain_if, statement_by, statement, may_stand_alone, more_by, group_more, group_by, group_statements, end_by, statements, case}
-use Rattle.mp_rules.specs.Contracts.{from, cost, used_by, used_by_side}
+use Rattle.mp_rules.specs.Promises.{from, cost, used_by, used_by_side}
 use Rattle.mp_rules.specs.Meaning.{rule, the, depth}
 use Rattle.mp_rules.proofs.Agreement.{After, Agree, AsMany, IsSpent, agree-then, weaker, stopped, given, acted}
 use Rattle.mp_rules.proofs.Ranks.{rank, measure, deep}
@@ -293,7 +293,7 @@ parenthesis-agrees r1 r2 pair m s c h =
 
 group-agrees : (r1 r2 : Rules) (s : Machine) → Below r1 r2 (measure Group s) → Agree (group r1 s) (group r2 s) (λ answer. Fewer (coming s))
 group-agrees r1 r2 s h =
-    let begun : Machine = record s { acts = open_group s.acts } in
+    let begun : Machine = record s { acts = begin_group s.acts } in
     agree-then (h.at NextFront begun (omega arith)) (λ first t p.
     agree-then (h.at GroupStatements t (omega arith)) (λ v u q.
     let ended : Machine = record u { acts = end_group u.acts } in

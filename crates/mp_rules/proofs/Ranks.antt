@@ -1,7 +1,7 @@
 -- On what is asked: a rule asks others of a lower rank, or after a front was used.
 use Rattle.std.proofs.Common.{◌≡◌, ◌<◌, ◌≤◌, ◌+◌, ◌*◌, ℕ, arith}
 use Rattle.mp_rules.specs.Machine.{Machine, weight, left}
-use Rattle.mp_rules.specs.Contracts.{from}
+use Rattle.mp_rules.specs.Promises.{from}
 use Rattle.mp_rules.specs.Meaning.{depth}
 use Rattle.mp_rules.specs.declared.chain_side.ChainSide.TheVariants as side
 use Rattle.mp_rules.specs.Rules.{What, NextFront, NextRaw, NumberThen, Factor, VariableName, Suffix, Group, PrimaryInside, Primary, Leading, SecondaryRest, Secondary, TertiaryRest, ExpressionFrom, Expression, ChainSide, ChainRest, Chain, ShowList, SymbolList, DeclaredName, TypeList, CommandRest, Statement, GroupStatements, Statements}

@@ -4,5 +4,5 @@ pub mod Steps
 pub mod Chains
 pub mod Rules
 pub mod Meaning
-pub mod Contracts
+pub mod Promises
 pub mod Starts

@@ -38,7 +38,7 @@ use Rattle.mp_acts.specs.Arithmetic as act
 use Rattle.mp_acts.specs.Suffixes.{suffix_string, string_token, subscript}
 use Rattle.mp_acts.specs.Variables.{root_of, read, declare}
 use Rattle.mp_acts.specs.Lines.{show, speak}
-use Rattle.mp_acts.specs.Groups.{open_group, end_group, with_each, let_symbol, delimiters, interim}
+use Rattle.mp_acts.specs.Groups.{begin_group, end_group, with_each, let_symbol, delimiters, interim}
 use Rattle.mp_acts.specs.declared.target.Target.TheVariants as target
 use Rattle.mp_rules.specs.Machine.{Machine, Rule}
 use Rattle.mp_rules.specs.Fronts.{symbol_front, secondary_in, tertiary_in, begins_primary, begins_factor}
@@ -326,7 +326,7 @@ parenthesis rule pair = do
 -- begingroup STATEMENTS EXPRESSION endgroup; the end of the group takes effect before the front behind it is got
 abbrev pub group : Rules → Rule Value
 group rule = do
-  opened ← acting (change open_group)
+  opened ← acting (change begin_group)
   first ← rule NextFront
   v ← rule GroupStatements
   closed ← acting (change end_group)

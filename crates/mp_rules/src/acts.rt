@@ -9,7 +9,7 @@ ghost use Rattle.mp_acts.specs.Reach.{reach};
 ghost use Rattle.mp_acts.specs.Suffixes as suffixes;
 ghost use Rattle.mp_acts.specs.Variables as variables;
 ghost use Rattle.mp_rules.specs.Machine.{unknowns};
-ghost use Rattle.mp_rules.specs.Contracts.{Acts, ActsValue};
+ghost use Rattle.mp_rules.specs.Promises.{Acts, ActsValue};
 ghost use Rattle.mp_rules.specs.Chains.{gets, reach_of_side};
 ghost use Rattle.mp_rules.specs.Steps.{acting, internal_number};
 
@@ -167,7 +167,7 @@ impl Evaluator {
     /// Begins a group.
     #[tactic(auto, using(crate::proofs::Stops::fault_stops))]
     pub(crate) fn open_group(&mut self) -> Result<(), Stop>
-        ensures acts { Acts (acting (change groups.open_group)) result self.old self.new }
+        ensures acts { Acts (acting (change groups.begin_group)) result self.old self.new }
         ensures hand { self.new.front ≡ self.old.front }
     {
         Ok(self.acts.do_begin_group()?)

@@ -4,7 +4,7 @@ ghost use Rattle.std.specs.Prelude.{◌≡◌, ◌≤◌, ◌++◌, ◌∷◌, r
 ghost use Rattle.mp_acts.specs.Reach.{reach};
 ghost use Rattle.mp_rules.specs.Machine.{unknowns};
 ghost use Rattle.mp_rules.specs.Rules.{Chain, ChainSide as ASide};
-ghost use Rattle.mp_rules.specs.Contracts.{Means, ActsValue, GoesOn, Acts, used_by_side};
+ghost use Rattle.mp_rules.specs.Promises.{Means, ActsValue, GoesOn, Acts, used_by_side};
 ghost use Rattle.mp_rules.specs.Meaning.{the};
 ghost use Rattle.mp_rules.specs.Rules as rules;
 ghost use Rattle.mp_rules.specs.Chains.{settle, reach_of_side, reach_of_sides};

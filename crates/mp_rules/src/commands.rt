@@ -2,7 +2,7 @@
 
 ghost use Rattle.std.specs.Prelude.{◌≡◌};
 ghost use Rattle.mp_rules.specs.Rules.{ShowList, SymbolList, TypeList, CommandRest};
-ghost use Rattle.mp_rules.specs.Contracts.{Means, Uses};
+ghost use Rattle.mp_rules.specs.Promises.{Means, Uses};
 ghost use Rattle.mp_rules.specs.Meaning.{the};
 ghost use Rattle.mp_rules.specs.Rules as rules;
 

@@ -1,9 +1,9 @@
 //! The evaluator and its single steps.
 
-ghost use Rattle.std.specs.Prelude.{◌≡◌, ◌≤◌, [], None, OnErr};
+ghost use Rattle.std.specs.Prelude.{◌≡◌, ◌≤◌, [], None, Err};
 ghost use Rattle.mp_values.specs.Outcome.{IsStop, Yields};
 ghost use Rattle.mp_rules.specs.Fronts.{stood, raw_stood, refused_front, refused_raw};
-ghost use Rattle.mp_rules.specs.Contracts.{Acts, Took};
+ghost use Rattle.mp_rules.specs.Promises.{Acts, Took};
 ghost use Rattle.mp_rules.specs.Starts.{start_on, whole};
 ghost use Rattle.mp_rules.specs.Meaning.{the};
 ghost use Rattle.mp_rules.specs.Steps as steps;
@@ -71,13 +71,7 @@ pub struct Finished {
 
 impl Evaluator {
     /// An evaluator at the start of a text. Each source was asked for once.
-    pub fn new(
-        alloc: Global,
-        sources: Sources,
-        input: Input,
-        acts: State,
-        budget: u64,
-    ) -> Evaluator
+    pub fn new(alloc: Global, sources: Sources, input: Input, acts: State, budget: u64) -> Evaluator
         ensures { result ≡ start_on sources input.text input.last acts budget }
     {
         Evaluator {
@@ -99,6 +93,8 @@ impl Evaluator {
     pub fn run(&mut self) -> Result<(), Stop>
         ensures meaning { Yields result self.new (whole the self.old) }
         ensures kept { self.new.budget ≡ self.old.budget }
+        ensures files { self.new.sources ≡ self.old.sources }
+        ensures spent { result ≡ Err Stop.OutOfSteps → self.new.steps ≡ self.new.budget }
     {
         self.next_front()?;
         self.statements()

@@ -4,7 +4,7 @@ ghost use Rattle.std.specs.Prelude.{◌≡◌, ◌≤◌};
 ghost use Rattle.mp_acts.specs.Reach.{reach};
 ghost use Rattle.mp_rules.specs.Machine.{unknowns};
 ghost use Rattle.mp_rules.specs.Rules.{SecondaryRest, Secondary, TertiaryRest, ExpressionFrom, Expression};
-ghost use Rattle.mp_rules.specs.Contracts.{Means};
+ghost use Rattle.mp_rules.specs.Promises.{Means};
 
 use crate::evaluator::Evaluator;
 use mp_values::{Stop, Value};

@@ -4,7 +4,7 @@ ghost use Rattle.std.specs.Prelude.{◌≡◌};
 ghost use Rattle.mp_values.specs.Outcome.{Yields};
 ghost use Rattle.mp_rules.specs.Fronts.{symbol_front};
 ghost use Rattle.mp_rules.specs.Rules.{NextFront, NextRaw, raw_symbol};
-ghost use Rattle.mp_rules.specs.Contracts.{Means, Uses};
+ghost use Rattle.mp_rules.specs.Promises.{Means, Uses};
 ghost use Rattle.mp_rules.specs.Meaning.{the};
 
 use crate::evaluator::Evaluator;

@@ -4,7 +4,7 @@ ghost use Rattle.std.specs.Prelude.{◌≡◌, ◌≤◌};
 ghost use Rattle.mp_acts.specs.Reach.{reach};
 ghost use Rattle.mp_rules.specs.Machine.{unknowns};
 ghost use Rattle.mp_rules.specs.Rules.{NumberThen, Factor, VariableName, Group, PrimaryInside, Primary, Leading};
-ghost use Rattle.mp_rules.specs.Contracts.{Means, ActsValue, ActsSide, GoesOn, UsesValue};
+ghost use Rattle.mp_rules.specs.Promises.{Means, ActsValue, ActsSide, GoesOn, UsesValue};
 ghost use Rattle.mp_rules.specs.Meaning.{the};
 ghost use Rattle.mp_rules.specs.Rules as rules;
 

@@ -2,7 +2,7 @@
 
 ghost use Rattle.std.specs.Prelude.{◌≡◌};
 ghost use Rattle.mp_rules.specs.Rules.{Statement, GroupStatements, Statements};
-ghost use Rattle.mp_rules.specs.Contracts.{Means, Acts};
+ghost use Rattle.mp_rules.specs.Promises.{Means, Acts};
 ghost use Rattle.mp_rules.specs.Rules as rules;
 
 use crate::evaluator::Evaluator;
@@ -39,7 +39,9 @@ impl Evaluator {
     {
         match value {
             Value::Vacuous | Value::Text(_) | Value::Unset(Kind::Text, _) => Ok(()),
-            Value::Unset(_, _) | Value::Numeric(_) | Value::Boolean(_) => Err(self.unexpected(b"=")),
+            Value::Unset(_, _) | Value::Numeric(_) | Value::Boolean(_) => Err(self.unexpected(
+                b"=",
+            )),
         }
     }
 

@@ -1,7 +1,7 @@
 //! The parts of names behind a tag: of a variable's name, and of a declared one.
 
 ghost use Rattle.std.specs.Prelude.{◌≡◌, []};
-ghost use Rattle.mp_rules.specs.Contracts.{Means, Acts, Uses};
+ghost use Rattle.mp_rules.specs.Promises.{Means, Acts, Uses};
 ghost use Rattle.mp_rules.specs.Meaning.{the};
 ghost use Rattle.mp_rules.specs.Rules as rules;
 

@@ -1,15 +1,14 @@
 use Rattle.std.proofs.Common.{◌≡◌, ◌≤◌, ◌+◌, ◌*◌, [], reverse}
 use Rattle.mp_acts.specs.Reach.{reach}
 use Rattle.mp_rules.specs.Machine.{coming, left, unknowns}
-use Rattle.mp_rules.specs.Sides.{reach_of_side, reach_of_sides}
-use Rattle.mp_rules.specs.Rules.{Number, NumberThen, Factor, Variable, Suffix, Parenthesis, Group, PrimaryInside, Primary, Leading, Secondary, SecondaryRest, Tertiary, TertiaryRest, Expression, Part, Chain, ChainRest, ShowList, Interim, Spoken, CommandOf, Statement, GroupStatements}
-use Rattle.mp_rules.specs.Meaning.{the, measure}
+use Rattle.mp_rules.specs.Chains.{reach_of_side, reach_of_sides}
+use Rattle.mp_rules.specs.Promises.{used_by_side}
+use Rattle.mp_rules.specs.Rules.{NumberThen, Factor, VariableName, Suffix, Group, PrimaryInside, Primary, Leading, SecondaryRest, Secondary, TertiaryRest, ExpressionFrom, Expression, ChainSide, ChainRest, Chain, ShowList, CommandRest, Statement, GroupStatements}
+use Rattle.mp_rules.specs.Meaning.{the}
+use Rattle.mp_rules.proofs.Ranks.{measure}
 use Rattle.mp_rules.proofs.evaluator.Evaluator.+eval.Given as goal
 
 -- twice the measure of what is asked; a function between two rules has an odd one
-
-abbrev pub decreases-number : goal.decreases-number
-decreases-number l = 2 * measure (Number l.value) l.self.now
 
 abbrev pub decreases-number_then : goal.decreases-number_then
 decreases-number_then l = 2 * measure (NumberThen l.value) l.self.now
@@ -17,14 +16,11 @@ decreases-number_then l = 2 * measure (NumberThen l.value) l.self.now
 abbrev pub decreases-factor : goal.decreases-factor
 decreases-factor l = 2 * measure (Factor l.value) l.self.now
 
-abbrev pub decreases-variable : goal.decreases-variable
-decreases-variable l = 2 * measure (Variable l.symbol) l.self.now
+abbrev pub decreases-variable_name : goal.decreases-variable_name
+decreases-variable_name l = 2 * measure (VariableName l.symbol) l.self.now
 
 abbrev pub decreases-suffix : goal.decreases-suffix
 decreases-suffix l = 2 * measure (Suffix []) l.self.now
-
-abbrev pub decreases-parenthesis : goal.decreases-parenthesis
-decreases-parenthesis l = 2 * measure (Parenthesis l.pair) l.self.now
 
 abbrev pub decreases-group : goal.decreases-group
 decreases-group l = 2 * measure Group l.self.now
@@ -47,14 +43,14 @@ decreases-secondary l = 2 * measure Secondary l.self.now
 abbrev pub decreases-tertiary_rest : goal.decreases-tertiary_rest
 decreases-tertiary_rest l = 2 * measure (TertiaryRest l.left) l.self.now
 
-abbrev pub decreases-tertiary : goal.decreases-tertiary
-decreases-tertiary l = 2 * measure Tertiary l.self.now
+abbrev pub decreases-expression_from : goal.decreases-expression_from
+decreases-expression_from l = 2 * measure (ExpressionFrom l.first) l.self.now
 
 abbrev pub decreases-expression : goal.decreases-expression
 decreases-expression l = 2 * measure Expression l.self.now
 
-abbrev pub decreases-part : goal.decreases-part
-decreases-part l = 2 * measure Part l.self.now
+abbrev pub decreases-chain_side : goal.decreases-chain_side
+decreases-chain_side l = 2 * measure ChainSide l.self.now
 
 abbrev pub decreases-chain : goal.decreases-chain
 decreases-chain l = 2 * measure Chain l.self.now
@@ -62,14 +58,8 @@ decreases-chain l = 2 * measure Chain l.self.now
 abbrev pub decreases-show_list : goal.decreases-show_list
 decreases-show_list l = 2 * measure ShowList l.self.now
 
-abbrev pub decreases-interim_value : goal.decreases-interim_value
-decreases-interim_value l = 2 * measure Interim l.self.now
-
-abbrev pub decreases-spoken : goal.decreases-spoken
-decreases-spoken l = 2 * measure (Spoken l.command) l.self.now
-
-abbrev pub decreases-command : goal.decreases-command
-decreases-command l = 2 * measure (CommandOf l.command) l.self.now
+abbrev pub decreases-command_rest : goal.decreases-command_rest
+decreases-command_rest l = 2 * measure (CommandRest l.command) l.self.now
 
 abbrev pub decreases-statement : goal.decreases-statement
 decreases-statement l = 2 * measure Statement l.self.now
@@ -77,50 +67,51 @@ decreases-statement l = 2 * measure Statement l.self.now
 abbrev pub decreases-group_statements : goal.decreases-group_statements
 decreases-group_statements l = 2 * measure GroupStatements l.self.now
 
-abbrev pub decreases-times : goal.decreases-times
-decreases-times l = 2 * (16 * left l.self.now + 2) + 1
+abbrev pub decreases-next_primary : goal.decreases-next_primary
+decreases-next_primary l = 2 * (64 * coming l.self.now + 4) + 1
 
-abbrev pub decreases-plus_primary : goal.decreases-plus_primary
-decreases-plus_primary l = 2 * (16 * coming l.self.now + 2) + 1
+abbrev pub decreases-next_expression : goal.decreases-next_expression
+decreases-next_expression l = 2 * (64 * coming l.self.now + 9) + 1
 
-abbrev pub decreases-minus_primary : goal.decreases-minus_primary
-decreases-minus_primary l = 2 * (16 * coming l.self.now + 2) + 1
+abbrev pub decreases-number : goal.decreases-number
+decreases-number l = 2 * (64 * coming l.self.now + 6) + 1
 
-abbrev pub decreases-bracketed : goal.decreases-bracketed
-decreases-bracketed l = 2 * (16 * coming l.self.now + 7) + 1
+abbrev pub decreases-variable : goal.decreases-variable
+decreases-variable l = 2 * (64 * coming l.self.now + 2) + 1
+
+abbrev pub decreases-parenthesis : goal.decreases-parenthesis
+decreases-parenthesis l = 2 * (64 * coming l.self.now + 9) + 1
 
 abbrev pub decreases-str_primary : goal.decreases-str_primary
-decreases-str_primary l = 2 * (16 * coming l.self.now + 1) + 1
+decreases-str_primary l = 2 * (64 * coming l.self.now + 1) + 1
+
+abbrev pub decreases-applied : goal.decreases-applied
+decreases-applied l = 2 * (64 * coming l.self.now + 4) + 1
+
+abbrev pub decreases-word_primary : goal.decreases-word_primary
+decreases-word_primary l = 2 * (64 * left l.self.now + 2) + 1
 
 abbrev pub decreases-leading_inside : goal.decreases-leading_inside
-decreases-leading_inside l = 2 * (16 * left l.self.now + 1) + 1
+decreases-leading_inside l = 2 * (64 * left l.self.now + 3) + 1
 
-abbrev pub decreases-multiplied : goal.decreases-multiplied
-decreases-multiplied l = 2 * (16 * coming l.self.now + 2) + 1
+abbrev pub decreases-bracketed : goal.decreases-bracketed
+decreases-bracketed l = 2 * (64 * coming l.self.now + 9) + 1
 
-abbrev pub decreases-divided : goal.decreases-divided
-decreases-divided l = 2 * (16 * coming l.self.now + 2) + 1
+abbrev pub decreases-side_from : goal.decreases-side_from
+decreases-side_from l = 2 * (64 * left l.self.now + 8) + 1
 
-abbrev pub decreases-added : goal.decreases-added
-decreases-added l = 2 * (16 * coming l.self.now + 4) + 1
+abbrev pub decreases-interim_value : goal.decreases-interim_value
+decreases-interim_value l = 2 * (64 * coming l.self.now + 9) + 1
 
-abbrev pub decreases-subtracted : goal.decreases-subtracted
-decreases-subtracted l = 2 * (16 * coming l.self.now + 4) + 1
-
-abbrev pub decreases-part_from : goal.decreases-part_from
-decreases-part_from l = 2 * (16 * left l.self.now + 5) + 1
-
-abbrev pub decreases-show_command : goal.decreases-show_command
-decreases-show_command l = 2 * (16 * coming l.self.now + 8) + 1
-
-abbrev pub decreases-commanded : goal.decreases-commanded
-decreases-commanded l = 2 * (16 * coming l.self.now + 10) + 1
+abbrev pub decreases-spoken : goal.decreases-spoken
+decreases-spoken l = 2 * (64 * coming l.self.now + 9) + 1
 
 abbrev pub invariant-secondary_rest-primaries : goal.invariant-secondary_rest-primaries
 invariant-secondary_rest-primaries l = record {
   leads : the (SecondaryRest l.fn.left) l.fn.self ≡ the (SecondaryRest l.so_far) l.self;
   went : left l.self ≤ left l.fn.self;
   kept : l.self.budget ≡ l.fn.self.budget;
+  files : l.self.sources ≡ l.fn.self.sources;
   grown : unknowns l.fn.self ≤ unknowns l.self;
   within : reach l.so_far ≤ unknowns l.self;
 }
@@ -133,6 +124,7 @@ invariant-tertiary_rest-secondaries l = record {
   leads : the (TertiaryRest l.fn.left) l.fn.self ≡ the (TertiaryRest l.so_far) l.self;
   went : left l.self ≤ left l.fn.self;
   kept : l.self.budget ≡ l.fn.self.budget;
+  files : l.self.sources ≡ l.fn.self.sources;
   grown : unknowns l.fn.self ≤ unknowns l.self;
   within : reach l.so_far ≤ unknowns l.self;
 }
@@ -140,35 +132,38 @@ invariant-tertiary_rest-secondaries l = record {
 abbrev pub decreases-tertiary_rest-secondaries : goal.decreases-tertiary_rest-secondaries
 decreases-tertiary_rest-secondaries l = left l.self
 
-abbrev pub invariant-chain-parts : goal.invariant-chain-parts
-invariant-chain-parts l = record {
-  leads : the Chain l.fn.self ≡ the (ChainRest (reverse l.sides.items) l.last) l.self;
-  went : left l.self ≤ left l.fn.self;
+abbrev pub invariant-chain-sides : goal.invariant-chain-sides
+invariant-chain-sides l = record {
+  leads : the Chain l.fn.self ≡ the (ChainRest (reverse l.before.items) l.last) l.self;
+  went : left l.self + used_by_side l.last ≤ left l.fn.self;
   kept : l.self.budget ≡ l.fn.self.budget;
+  files : l.self.sources ≡ l.fn.self.sources;
   grown : unknowns l.fn.self ≤ unknowns l.self;
   within : reach_of_side l.last ≤ unknowns l.self;
-  before : reach_of_sides (reverse l.sides.items) ≤ unknowns l.self;
+  before : reach_of_sides (reverse l.before.items) ≤ unknowns l.self;
 }
 
-abbrev pub decreases-chain-parts : goal.decreases-chain-parts
-decreases-chain-parts l = left l.self
+abbrev pub decreases-chain-sides : goal.decreases-chain-sides
+decreases-chain-sides l = left l.self + used_by_side l.last
 
 abbrev pub invariant-show_list-expressions : goal.invariant-show_list-expressions
 invariant-show_list-expressions l = record {
   leads : the ShowList l.fn.self ≡ the ShowList l.self;
-  went : left l.self ≤ left l.fn.self;
+  went : coming l.self ≤ coming l.fn.self;
   kept : l.self.budget ≡ l.fn.self.budget;
+  files : l.self.sources ≡ l.fn.self.sources;
   grown : unknowns l.fn.self ≤ unknowns l.self;
 }
 
 abbrev pub decreases-show_list-expressions : goal.decreases-show_list-expressions
-decreases-show_list-expressions l = left l.self
+decreases-show_list-expressions l = coming l.self
 
 abbrev pub invariant-group_statements-statements : goal.invariant-group_statements-statements
 invariant-group_statements-statements l = record {
   leads : the GroupStatements l.fn.self ≡ the GroupStatements l.self;
   went : left l.self ≤ left l.fn.self;
   kept : l.self.budget ≡ l.fn.self.budget;
+  files : l.self.sources ≡ l.fn.self.sources;
   grown : unknowns l.fn.self ≤ unknowns l.self;
 }
 
@@ -180,6 +175,7 @@ invariant-suffix-parts l = record {
   leads : the (Suffix []) l.fn.self ≡ the (Suffix l.parts) l.self;
   went : left l.self ≤ left l.fn.self;
   kept : l.self.budget ≡ l.fn.self.budget;
+  files : l.self.sources ≡ l.fn.self.sources;
   grown : unknowns l.fn.self ≤ unknowns l.self;
 }
 

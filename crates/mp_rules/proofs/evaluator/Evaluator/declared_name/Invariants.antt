@@ -9,6 +9,7 @@ invariant-parts l = record {
   leads : the (DeclaredName []) l.fn.self ≡ the (DeclaredName l.parts) l.self;
   went : left l.self ≤ left l.fn.self;
   kept : l.self.budget ≡ l.fn.self.budget;
+  files : l.self.sources ≡ l.fn.self.sources;
   grown : unknowns l.fn.self ≤ unknowns l.self;
 }
 

@@ -9,6 +9,7 @@ invariant-items l = record {
   leads : the NextRaw l.fn.self ≡ the NextRaw l.self;
   went : coming l.self ≤ coming l.fn.self;
   kept : l.self.budget ≡ l.fn.self.budget;
+  files : l.self.sources ≡ l.fn.self.sources;
   grown : unknowns l.fn.self ≤ unknowns l.self;
 }
 

@@ -9,6 +9,7 @@ invariant-statements l = record {
   leads : the Statements l.fn.self ≡ the Statements l.self;
   went : left l.self ≤ left l.fn.self;
   kept : l.self.budget ≡ l.fn.self.budget;
+  files : l.self.sources ≡ l.fn.self.sources;
   grown : unknowns l.fn.self ≤ unknowns l.self;
 }
 

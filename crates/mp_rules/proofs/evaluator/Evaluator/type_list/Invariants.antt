@@ -9,6 +9,7 @@ invariant-names l = record {
   leads : the (TypeList l.fn.kind) l.fn.self ≡ the (TypeList l.kind) l.self;
   went : coming l.self ≤ coming l.fn.self;
   kept : l.self.budget ≡ l.fn.self.budget;
+  files : l.self.sources ≡ l.fn.self.sources;
   grown : unknowns l.fn.self ≤ unknowns l.self;
 }
 

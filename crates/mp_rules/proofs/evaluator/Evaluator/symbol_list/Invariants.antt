@@ -1,14 +1,15 @@
 use Rattle.std.proofs.Common.{◌≡◌, ◌≤◌}
 use Rattle.mp_rules.specs.Machine.{coming, unknowns}
-use Rattle.mp_rules.specs.Rules.{NewinternalList}
+use Rattle.mp_rules.specs.Rules.{SymbolList}
 use Rattle.mp_rules.specs.Meaning.{the}
-use Rattle.mp_rules.proofs.evaluator.Evaluator.newinternal_list.Given as goal
+use Rattle.mp_rules.proofs.evaluator.Evaluator.symbol_list.Given as goal
 
 abbrev pub invariant-symbols : goal.invariant-symbols
 invariant-symbols l = record {
-  leads : the NewinternalList l.fn.self ≡ the NewinternalList l.self;
+  leads : the (SymbolList l.fn.command) l.fn.self ≡ the (SymbolList l.command) l.self;
   went : coming l.self ≤ coming l.fn.self;
   kept : l.self.budget ≡ l.fn.self.budget;
+  files : l.self.sources ≡ l.fn.self.sources;
   grown : unknowns l.fn.self ≤ unknowns l.self;
 }
 

@@ -57,6 +57,8 @@ pub record Reads {A : Type 0} (does : Rule A) (bound : ℕ) (costs reaches : A �
   -- no front is got without a step
   pub went : IfOk result (λ answer. left new + costs answer ≤ bound)
   pub kept : new.budget ≡ old.budget
+  -- no file is asked for yet but the main one, before the first rule
+  pub files : new.sources ≡ old.sources
   -- unknowns are never taken away, and an answer speaks of those that there are
   pub grown : unknowns old ≤ unknowns new
   pub within : IfOk result (λ answer. reaches answer ≤ unknowns new)
