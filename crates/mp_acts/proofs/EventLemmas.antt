@@ -1,5 +1,5 @@
 -- Each change of the unknowns is an event, or none.
-use Rattle.std.proofs.Common.{◌≡◌, ◌<◌, ◌≤◌, ℕ, ◌+◌, ◌-◌, Bool, true, false, cond, List, [], ◌∷◌, ◌++◌, Option, None, Ok, length, map, slice_set, get_or, drop, refl, sym, ap, subst, ◌∙◌, add-one, drop-cons, arith, length-append}
+use Rattle.std.proofs.Common.{◌≡◌, ◌<◌, ◌≤◌, ℕ, ◌+◌, ◌-◌, Bool, true, false, cond, List, [], ◌∷◌, ◌++◌, Option, None, Ok, length, map, slice_set, get_or, drop, refl, sym, ap, subst, ◌∙◌, add-one, zero-add, drop-cons, arith, length-append}
 use Rattle.std.specs.List.{count_by}
 use Rattle.std.specs.Coded.{Coded-set, coded_ℕ}
 use Rattle.std.proofs.lemmas.List.{drop_all, map-append, length-map}
@@ -110,7 +110,7 @@ module _ (xs : List ℕ) where
   without_end unknowns i past = ap (without_names unknowns) (drop_all i xs past)
 
 count_first : (test : Event → Bool) (e : Event) (events : List Event) → count_by test (e ∷ events) ≡ cond (test e) 1 0 + count_by test events
-count_first test e events = sum_by-append (λ e. cond (test e) 1 0) (e ∷ []) events
+count_first test e events = sum_by-append (λ e. cond (test e) 1 0) (e ∷ []) events ∙ ap (λ n. n + count_by test events) (zero-add (cond (test e) 1 0))
 
 -- an event is an unknown or an equation
 pub both_counts : (events : List Event) → length events ≡ count_by is_fresh events + count_by is_equation events

@@ -20,12 +20,14 @@ left_known p q (t ∷ ts) us e more = absurd (omega (arith, e))
 pub returns-then-is_empty-clause-exact : goal.returns-then-is_empty-clause-exact
 returns-then-is_empty-clause-exact c =
     let fits : SFits w32 c.constant.result = search rules in
+    let exact = simp to_z-of_z at c.times.ensures.exact in
     let none : length c.args.q.now.terms ≡ 0 = grind (arith, nat_tests, c.if-is_empty.ensures, c.terms.ensures.same) in
-    rw (right_known c.args.p.now c.args.q.now c.args.p.now.terms c.args.q.now.terms none) (simp (c.constant.ensures, to_z-of_z) at c.times.ensures.exact)
+    rw (right_known c.args.p.now c.args.q.now c.args.p.now.terms c.args.q.now.terms none) (rw c.constant.ensures at exact)
 
 pub returns-then-is_empty-2-clause-exact : goal.returns-then-is_empty-2-clause-exact
 returns-then-is_empty-2-clause-exact c =
     let fits : SFits w32 c.constant-then-is_empty-2.result = search rules in
+    let exact = simp to_z-of_z at c.times-then-is_empty-2.ensures.exact in
     let none : length c.args.p.now.terms ≡ 0 = grind (arith, nat_tests, c.if-is_empty-2.ensures, c.terms-else-is_empty.ensures.same) in
     let some : 0 < length c.args.q.now.terms = grind (arith, nat_tests, c.if-is_empty.ensures, c.terms.ensures.same) in
-    rw (left_known c.args.p.now c.args.q.now c.args.p.now.terms c.args.q.now.terms none some) (simp (c.constant-then-is_empty-2.ensures, to_z-of_z) at c.times-then-is_empty-2.ensures.exact)
+    rw (left_known c.args.p.now c.args.q.now c.args.p.now.terms c.args.q.now.terms none some) (rw c.constant-then-is_empty-2.ensures at exact)
