@@ -1,5 +1,5 @@
 -- What an equation leaves: forms over the same unknowns, and a state that is changed only where it was accepted.
-use Rattle.std.proofs.Common.{◌≡◌, ℕ, ◌-◌, ◌≤◌, Bool, true, false, not, cond, nat_lt, nat_eq, List, Option, Some, None, Result, Ok, Err, map, length, refl, sym, ap, subst, ◌∙◌, arith}
+use Rattle.std.proofs.Common.{◌≡◌, ℕ, ◌-◌, ◌≤◌, Bool, true, false, not, cond, nat_lt, nat_eq, List, [], ◌∷◌, ◌++◌, Option, Some, None, Result, Ok, Err, map, length, refl, sym, ap, subst, ◌∙◌, arith}
 use Rattle.std.specs.List.{All, list_any}
 use Rattle.std.specs.Option.{option_map}
 use Rattle.std.proofs.lemmas.List.{length-map, length-set}
@@ -7,16 +7,22 @@ use Rattle.std.proofs.lemmas.List.Elements.{All-map, All-set, All-weaker}
 use Rattle.mp_pool.specs.declared.Term.{Term}
 use Rattle.mp_forms.specs.Ratios.{times_fraction}
 use Rattle.mp_forms.specs.Forms.{LinearForm}
+use Rattle.mp_forms.specs.Terms.{AreTerms}
+use Rattle.mp_solver.specs.Reduction.{reduce_of}
+use Rattle.mp_solver.specs.Replay.{Event, Equation}
 use Rattle.mp_solver.specs.States.{States, Unknowns}
 use Rattle.mp_solver.specs.Ready.{Prepared, prepared}
 use Rattle.mp_forms.specs.declared.fault.FormFault.{FormFault}
 use Rattle.mp_solver.specs.Elimination.{without, term_of, over_negative, solved_for, replaced, replaced_term, solved_states, forms_in, has_large_coefficient, has_large_constant, term_count, eliminate_by, eliminate, pivot_of}
 use Rattle.mp_solver.specs.declared.equated.Equated.{Equated}
 use Rattle.mp_solver.specs.declared.equated.Equated.TheVariants.{Accepted, CoefficientTooLarge, Overflow, Limit}
+use Rattle.mp_values.specs.declared.meaning.Meaning.{Meaning}
 use Rattle.mp_values.specs.declared.value.Value.{Value}
 use Rattle.mp_vartree.specs.Variables.{Variables}
 use Rattle.mp_acts.specs.Reach.{reach_of_form, reach_of_known, reach_of_slot, AreWithin}
-use Rattle.mp_acts.proofs.ReachLemmas.{reach-filter, reach-changed, reach-sum}
+use Rattle.mp_acts.specs.Kept.{IsKept}
+use Rattle.mp_acts.proofs.EventLemmas.{events_equation}
+use Rattle.mp_acts.proofs.ReachLemmas.{is_over, reach-filter, reach-changed, reach-sum}
 
 module _ (n : ℕ) where
   solved_within : (pivot : Term) (p : LinearForm) → reach_of_form p ≤ n → reach_of_form (solved_for pivot p) ≤ n
@@ -95,6 +101,26 @@ equation_keeps states after variables slots residual answer is h e =
         filled = All-weaker (λ slot. reach_of_slot slot ≤ length states) (λ slot. reach_of_slot slot ≤ length after) (λ slot h. omega arith) slots is.filled;
       };
     }
+
+-- what is kept of a state is kept by an equation that was accepted, which is the newest event
+module _ {past : Meaning} {count : ℕ} {variables : Variables} {slots : List (Option Value)} {events : List Event} (before now : Unknowns) (difference residual : LinearForm)
+      (is : IsKept past count before variables slots events) (terms : AreTerms difference.terms) (reaches : reach_of_form difference ≤ length before.states)
+      (reduced : Ok residual ≡ reduce_of before.states difference) (within : reach_of_form residual ≤ length before.states)
+      (exact : (Accepted, now.states) ≡ eliminate before.states residual) (names : now.names ≡ before.names) where
+  keeps : Keeps before.states now.states variables slots
+  keeps = equation_keeps before.states now.states variables slots residual Accepted is.within within exact
+
+  pub as_many : length now.states ≡ length before.states
+  as_many = keeps.length_is
+
+  pub with_equation : IsKept past count now variables slots (events ++ Equation difference ∷ [])
+  with_equation = record {
+    past_is = is.past_is;
+    counted = is.counted ∙ sym as_many;
+    within = keeps.within;
+    history =
+        events_equation before difference residual now terms (is_over before.states difference is.within.few reaches) reduced exact names as_many is.history;
+  }
 
 -- a difference that is prepared was brought up to date, and one that is refused was not
 pub prepared_err : (unknowns : Unknowns) (r : Result LinearForm FormFault) (fault : FormFault) (answer : Result Prepared FormFault) → answer ≡ Err fault → answer ≡ prepared unknowns r → r ≡ Err fault

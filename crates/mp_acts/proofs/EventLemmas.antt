@@ -1,48 +1,79 @@
 -- Each change of the unknowns is an event, or none.
-use Rattle.std.proofs.Common.{◌≡◌, ◌<◌, ◌≤◌, ℕ, ◌+◌, ◌-◌, true, false, cond, List, [], ◌∷◌, ◌++◌, Option, None, length, slice_set, get_or, drop, refl, sym, ap, subst, ◌∙◌, add-one, drop-cons}
-use Rattle.std.proofs.lemmas.List.{drop_all}
-use Rattle.std.proofs.Math.Logic.{∥∥₁_map}
-use Rattle.mp_solver.specs.declared.fresh.Fresh.{Fresh}
-use Rattle.mp_solver.specs.declared.equated.Equated.{Equated}
-use Rattle.mp_solver.specs.States.{Unknowns, fresh_of}
+use Rattle.std.proofs.Common.{◌≡◌, ◌<◌, ◌≤◌, ℕ, ◌+◌, ◌-◌, Bool, true, false, cond, List, [], ◌∷◌, ◌++◌, Option, None, Ok, length, map, slice_set, get_or, drop, refl, sym, ap, subst, ◌∙◌, add-one, zero-add, drop-cons, arith, length-append}
+use Rattle.std.specs.List.{count_by}
+use Rattle.std.specs.Coded.{Coded-set, coded_ℕ}
+use Rattle.std.proofs.lemmas.List.{drop_all, map-append, length-map}
+use Rattle.std.proofs.lemmas.List.Sums.{fold-append, sum_by-append}
+use Rattle.std.proofs.Math.Logic.{∥∥₁_map, ∥∥₁_elim}
+use Rattle.mp_solver.specs.declared.fresh.Fresh.TheVariants.{Made}
+use Rattle.mp_solver.specs.declared.equated.Equated.TheVariants.{Accepted}
+use Rattle.mp_solver.specs.States.{States, Unknowns, IsOver, with_fresh, fresh_of}
+use Rattle.mp_solver.specs.Reduction.{reduce_of}
 use Rattle.mp_solver.specs.Elimination.{forms_in, eliminate}
-use Rattle.mp_solver.specs.Replay.{Event, replay, fresh_event, equation_event, IsMadeBy, new, fresh, unname, equate}
+use Rattle.mp_solver.specs.Replay as event
+use Rattle.mp_solver.specs.Replay.{Event, after, after_residual, replay, IsMadeBy, new, fresh, unname, equate}
+use Rattle.mp_forms.specs.Terms.{AreTerms}
 use Rattle.mp_forms.specs.Forms.{LinearForm}
-use Rattle.mp_acts.specs.Events.{HasEvents, AreReplayed, IsUpToDate}
+use Rattle.mp_acts.specs.State.{is_fresh, is_equation}
+use Rattle.mp_acts.specs.Events.{event_of, AreMadeBy, AreEventsOf}
 use Rattle.mp_acts.specs.Variables.{is_unknown, without_name, without_names}
+use Rattle.mp_acts.specs.declared.event.Event.{Event as Kept}
 
-pub no_events : HasEvents (record { states = []; names = [] })
-unfolding HasEvents
-no_events = ∣ ([], new) ∣₁
+-- the newest event stands last, in the code and in the view
+pub map_push : (old pushed : List Kept) (e : Kept) → pushed ≡ old ++ e ∷ [] → map event_of pushed ≡ map event_of old ++ event_of e ∷ []
+map_push old pushed e is = ap (map event_of) is ∙ map-append event_of old (e ∷ [])
 
-module _ (before : Unknowns) (so_far : HasEvents before) where
-  pub events_fresh : (name : List ℕ) (answer : Fresh) (after : Unknowns) → (answer, after) ≡ fresh_of before name → HasEvents after
-  unfolding HasEvents
-  events_fresh name answer after exact = ∥∥₁_map so_far (λ made. (made.0 ++ fresh_event answer, fresh made.1 name answer after exact))
+replay_push : (events : List Event) (e : Event) → replay (events ++ e ∷ []) ≡ after (replay events) e
+replay_push events e = fold-append after [] events (e ∷ [])
 
-  events_unname : (serial : ℕ) → HasEvents (record before { names = slice_set before.names (serial - 1) None })
-  unfolding HasEvents
-  events_unname serial = ∥∥₁_map so_far (λ made. (made.0, unname made.1 serial))
+count_push : (events : List Event) (e : Event) → count_by is_fresh (events ++ e ∷ []) ≡ count_by is_fresh events + cond (is_fresh e) 1 0
+count_push events e = omega (arith, sum_by-append (λ e. cond (is_fresh e) 1 0) events (e ∷ []))
 
-  events_without : (serial : ℕ) → HasEvents (without_name before serial)
-  events_without serial =
-      elim (is_unknown before serial) as (λ b. HasEvents (cond b (record before { names = slice_set before.names (serial - 1) None }) before)) [
-        | true ↦ events_unname serial
-        | false ↦ so_far
-      ]
+pub no_events : AreEventsOf [] (record { states = []; names = [] })
+unfolding AreMadeBy
+no_events = record { made = ∣ new ∣₁; replayed = refl; counted = refl }
 
-  pub events_equate : (residual : LinearForm) (answer : Equated) (after : Unknowns) → IsUpToDate before.states residual → (answer, after.states) ≡ eliminate before.states residual
-      → after.names ≡ before.names → HasEvents after
-  unfolding HasEvents
-  events_equate residual answer after is exact names =
-      let Had : List (Option (List ℕ)) → Type 0 = λ names. HasEvents (record { states = after.states; names = names }) in
-      subst Had (sym names)
-      (∥∥₁_map so_far (λ made. (made.0 ++ equation_event is.difference answer, equate made.1 is.difference residual answer after.states is.terms is.over is.reduced exact)))
+-- an unknown
+module _ (before : Unknowns) (name : List ℕ) (serial : ℕ) (now : Unknowns) (exact : (Made serial, now) ≡ fresh_of before name) (states : now.states ≡ with_fresh before.states) where
+  pub events_fresh : {events : List Event} → AreEventsOf events before → AreEventsOf (events ++ event.Fresh ∷ []) now
+  unfolding AreMadeBy
+  events_fresh {events = events} is = record {
+    made = ∥∥₁_map is.made (λ made. fresh made name (Made serial) now exact);
+    replayed = states ∙ ap with_fresh is.replayed ∙ sym (replay_push events event.Fresh);
+    counted = omega (arith, count_push events event.Fresh, is.counted, ap length states, length-append before.states (None ∷ []));
+  }
 
-pub events_without_names : (serials : List ℕ) (before : Unknowns) → HasEvents before → HasEvents (without_names before serials)
+-- an equation that was accepted
+module _ (before : Unknowns) (difference residual : LinearForm) (now : Unknowns) (terms : AreTerms difference.terms) (over : IsOver before.states difference)
+      (reduced : Ok residual ≡ reduce_of before.states difference) (exact : (Accepted, now.states) ≡ eliminate before.states residual) (names : now.names ≡ before.names)
+      (as_many : length now.states ≡ length before.states) where
+  made_equation : {events : List Event} → IsMadeBy events before → IsMadeBy (events ++ event.Equation difference ∷ []) now
+  made_equation {events = events} made =
+      let Made_of : List (Option (List ℕ)) → Type 0 = λ names. IsMadeBy (events ++ event.Equation difference ∷ []) (record { states = now.states; names = names }) in
+      subst Made_of (sym names) (equate made difference residual Accepted now.states terms over reduced exact)
+
+  pub events_equation : {events : List Event} → AreEventsOf events before → AreEventsOf (events ++ event.Equation difference ∷ []) now
+  unfolding AreMadeBy
+  events_equation {events = events} is = record {
+    made = ∥∥₁_map is.made made_equation;
+    replayed =
+        ap (λ pair. pair.1) exact ∙ ap (after_residual before.states) reduced
+        ∙ ap (λ (states : States). after states (event.Equation difference)) is.replayed ∙ sym (replay_push events (event.Equation difference));
+    counted = omega (arith, count_push events (event.Equation difference), is.counted, as_many);
+  }
+
+-- a name that is taken away is no event
+made_without : {events : List Event} (serial : ℕ) (unknowns : Unknowns) → IsMadeBy events unknowns → IsMadeBy events (without_name unknowns serial)
+made_without {events = events} serial unknowns made =
+    elim (is_unknown unknowns serial) as (λ b. IsMadeBy events (cond b (record unknowns { names = slice_set unknowns.names (serial - 1) None }) unknowns)) [
+      | true ↦ unname made serial
+      | false ↦ made
+    ]
+
+made_without_names : {events : List Event} (serials : List ℕ) (unknowns : Unknowns) → IsMadeBy events unknowns → IsMadeBy events (without_names unknowns serials)
 unfolding without_names
-events_without_names [] before so_far = so_far
-events_without_names (serial ∷ more) before so_far = events_without_names more (without_name before serial) (events_without before so_far serial)
+made_without_names [] unknowns made = made
+made_without_names (serial ∷ more) unknowns made = made_without_names more (without_name unknowns serial) (made_without serial unknowns made)
 
 -- the states stay
 states_without : (serial : ℕ) (unknowns : Unknowns) → (without_name unknowns serial).states ≡ unknowns.states
@@ -57,6 +88,14 @@ unfolding without_names
 states_without_names [] unknowns = refl
 states_without_names (serial ∷ more) unknowns = states_without_names more (without_name unknowns serial) ∙ states_without serial unknowns
 
+pub events_without_names : {events : List Event} (serials : List ℕ) (unknowns : Unknowns) → AreEventsOf events unknowns → AreEventsOf events (without_names unknowns serials)
+unfolding AreMadeBy
+events_without_names serials unknowns is = record {
+  made = ∥∥₁_map is.made (made_without_names serials unknowns);
+  replayed = states_without_names serials unknowns ∙ is.replayed;
+  counted = is.counted ∙ sym (ap length (states_without_names serials unknowns));
+}
+
 -- the names of what is left of a list taken, when the next was
 module _ (xs : List ℕ) where
   pub without_step : (old after : Unknowns) (i d : ℕ) → i < length xs → after ≡ without_name old (get_or xs i d)
@@ -70,10 +109,27 @@ module _ (xs : List ℕ) where
   unfolding without_names
   without_end unknowns i past = ap (without_names unknowns) (drop_all i xs past)
 
--- what holds of all that calls make of a system holds of these unknowns
-pub events_replayed : ((events : List Event) (system : Unknowns) → IsMadeBy events system → system.states ≡ replay events)
-    → ((events : List Event) (system : Unknowns) → IsMadeBy events system → length events ≡ length system.states + length (forms_in system.states))
-    → (unknowns : Unknowns) → HasEvents unknowns → AreReplayed unknowns.states
-unfolding HasEvents
-events_replayed replayed counted unknowns have =
-    ∥∥₁_map have (λ made. (made.0, record { replayed = replayed made.0 unknowns made.1; counted = counted made.0 unknowns made.1 }))
+count_first : (test : Event → Bool) (e : Event) (events : List Event) → count_by test (e ∷ events) ≡ cond (test e) 1 0 + count_by test events
+count_first test e events = sum_by-append (λ e. cond (test e) 1 0) (e ∷ []) events ∙ ap (λ n. n + count_by test events) (zero-add (cond (test e) 1 0))
+
+-- an event is an unknown or an equation
+pub both_counts : (events : List Event) → length events ≡ count_by is_fresh events + count_by is_equation events
+both_counts [] = refl
+both_counts (event.Fresh ∷ events) =
+    omega (arith, both_counts events, count_first is_fresh event.Fresh events, count_first is_equation event.Fresh events)
+both_counts (event.Equation difference ∷ events) =
+    let e = event.Equation difference in
+    omega (arith, both_counts events, count_first is_fresh e events, count_first is_equation e events)
+
+-- as many unknowns are dependent as equations were accepted
+pub equations_counted : ((events : List Event) (system : Unknowns) → IsMadeBy events system → length events ≡ length system.states + length (forms_in system.states))
+    → (events : List Event) (unknowns : Unknowns) → AreEventsOf events unknowns → length (forms_in unknowns.states) ≡ count_by is_equation events
+unfolding AreMadeBy
+equations_counted counted events unknowns is =
+    ∥∥₁_elim is.made (Coded-set coded_ℕ _ _) (λ made. omega (arith, counted events unknowns made, both_counts events, is.counted))
+
+-- the equations are the events but the unknowns
+pub equations_left : (events : List Kept) (unknowns : Unknowns) (all count : ℕ) → all ≡ length events → count ≡ length unknowns.states → AreEventsOf (map event_of events) unknowns
+    → all - count ≡ count_by is_equation (map event_of events)
+equations_left events unknowns all count all_is count_is is =
+    omega (arith, all_is, count_is, is.counted, both_counts (map event_of events), length-map events event_of)

@@ -1,5 +1,6 @@
 -- Variables, slots and unknowns that change, and still speak of unknowns that there are.
-use Rattle.std.proofs.Common.{◌≡◌, ℕ, ◌+◌, ◌≤◌, ◌<◌, Bool, true, false, cond, List, [], ◌∷◌, ◌++◌, Option, Some, None, Result, Ok, Err, length, refl, sym, ap, subst, arith}
+use Rattle.std.proofs.Common.{◌≡◌, ℕ, ◌+◌, ◌≤◌, ◌<◌, Bool, true, false, cond, List, [], ◌∷◌, ◌++◌, Option, Some, None, Result, Ok, Err, length, map, refl, sym, ap, subst, ◌∙◌, arith}
+use Rattle.std.specs.List.{All}
 use Rattle.std.specs.Ordering.{eq_by_cmp}
 use Rattle.std.specs.Prelude.{nat_lt}
 use Rattle.std.proofs.Common.{length-append}
@@ -13,7 +14,7 @@ use Rattle.mp_values.specs.declared.value.Value.{Value}
 use Rattle.mp_vartree.specs.Kinds.{kind_of, is_kind}
 use Rattle.mp_vartree.specs.Names.{name_cmp, full_name, full_pattern, begins, is_meant}
 use Rattle.mp_vartree.specs.Declarations.{is_below_macro}
-use Rattle.mp_vartree.specs.Laws.{held}
+use Rattle.mp_vartree.specs.Laws.{held, PutsOne, TakesThose}
 use Rattle.mp_vartree.specs.Variables as variables
 use Rattle.mp_vartree.specs.Variables.{Variables, with_variable, without, with_declared, macro_at, wanted_kind}
 use Rattle.mp_vartree.specs.declared.answers.BadDeclaration.{BadDeclaration}
@@ -22,101 +23,162 @@ use Rattle.mp_vartree.specs.declared.entry.Declared.TheVariants as declared
 use Rattle.mp_vartree.specs.declared.entry.Variable.{Variable}
 use Rattle.mp_vartree.specs.declared.names.Part.{Part}
 use Rattle.mp_vartree.specs.declared.names.Shape.{Shape}
-use Rattle.mp_vartree.proofs.LawLemmas.{puts_one, takes_those}
+use Rattle.mp_solver.specs.Replay as event
+use Rattle.mp_solver.specs.Replay.{Event}
+use Rattle.mp_values.specs.declared.meaning.Meaning.{Meaning}
 use Rattle.mp_acts.specs.Reach.{reach, reach_of_known, reach_of_fresh, reach_of_variable, reach_of_slot, AreWithin}
+use Rattle.mp_symbols.specs.Tables.{Table}
+use Rattle.mp_acts.specs.State.{State}
+use Rattle.mp_acts.specs.Events.{event_of}
+use Rattle.mp_acts.specs.Kept.{IsKept}
+use Rattle.mp_acts.specs.Variables.{without_names}
+use Rattle.mp_acts.specs.declared.event.Event.{Event as Kept}
+use Rattle.mp_acts.specs.declared.limits.TheConstants.{UNKNOWN_LIMIT}
+use Rattle.mp_acts.proofs.EventLemmas.{map_push, events_fresh, events_equation, states_without_names, events_without_names}
 use Rattle.mp_acts.proofs.ReachLemmas.{reach_of_counted}
 
 -- each variable reaches so far at most
 abbrev pub HoldWithin : ℕ → Variables → Type 0
 HoldWithin n v = (name : List Part) → reach_of_variable (held v name) ≤ n
 
--- the invariant of a state, with other variables
-pub with_variables : {states : States} {old new : Variables} {slots : List (Option Value)} → AreWithin states old slots → HoldWithin (length states) new → AreWithin states new slots
-with_variables is h = record { few = is.few; forms = is.forms; held = h; filled = is.filled }
+-- what is kept of a state, with other variables
+pub with_variables : {past : Meaning} {count : ℕ} {unknowns : Unknowns} {old new : Variables} {slots : List (Option Value)} {events : List Event}
+    → IsKept past count unknowns old slots events → HoldWithin (length unknowns.states) new → IsKept past count unknowns new slots events
+with_variables is h = record {
+  past_is = is.past_is;
+  counted = is.counted;
+  within = record { few = is.within.few; forms = is.within.forms; held = h; filled = is.within.filled };
+  history = is.history;
+}
+
+-- and with one more slot, which is open
+pub with_slot : {past : Meaning} {count : ℕ} {unknowns : Unknowns} {variables : Variables} {old : List (Option Value)} {events : List Event}
+    → IsKept past count unknowns variables old events → IsKept past count unknowns variables (old ++ None ∷ []) events
+with_slot {unknowns = unknowns} {old = old} is = record {
+  past_is = is.past_is;
+  counted = is.counted;
+  within = record {
+    few = is.within.few;
+    forms = is.within.forms;
+    held = is.within.held;
+    filled = All-push (λ slot. reach_of_slot slot ≤ length unknowns.states) old None is.within.filled (omega arith);
+  };
+  history = is.history;
+}
 
 -- a new root changes no variable
 pub rooted_within : (n : ℕ) (old new : Variables) → new ≡ variables.with_new_root old → HoldWithin n old → HoldWithin n new
 rooted_within n old new e h = subst (λ (w : Variables). HoldWithin n w) (sym e) h
 
 module _ (n : ℕ) (v : Variables) (within : HoldWithin n v) where
-  pub held_with : (root : ℕ) (name : List Part) (x : Variable) → reach x.value ≤ n → HoldWithin n (with_variable v root name x)
-  held_with root name x h other =
-      rw (puts_one v root name x other)
+  held_with : PutsOne → (root : ℕ) (name : List Part) (x : Variable) → reach x.value ≤ n → HoldWithin n (with_variable v root name x)
+  held_with puts root name x h other =
+      rw (puts v root name x other)
       (elim (eq_by_cmp name_cmp other (full_name root name)) as (λ b. reach_of_variable (cond b (Some x) (held v other)) ≤ n) [
         | true ↦ h
         | false ↦ within other
       ])
 
-  pub held_without : (test : List Part → Bool) → HoldWithin n (without v test)
-  held_without test other =
-      rw (takes_those v test other)
+  held_without : TakesThose → (test : List Part → Bool) → HoldWithin n (without v test)
+  held_without takes test other =
+      rw (takes v test other)
       (elim (test other) as (λ b. reach_of_variable (cond b None (held v other)) ≤ n) [
         | true ↦ omega arith
         | false ↦ within other
       ])
 
-  pub forget_within : (root : ℕ) → HoldWithin n (variables.forget v root)
-  forget_within root = held_without (begins (full_pattern root []))
+  pub forget_within : TakesThose → (root : ℕ) → HoldWithin n (variables.forget v root)
+  forget_within takes root = held_without takes (begins (full_pattern root []))
 
-  pub declare_within : (root : ℕ) (name : List Shape) (kind : Kind) (answer : Result (Unit {0}) BadDeclaration) (new : Variables)
+  pub declare_within : TakesThose → (root : ℕ) (name : List Shape) (kind : Kind) (answer : Result (Unit {0}) BadDeclaration) (new : Variables)
       → (answer, new) ≡ variables.declare v root name kind → HoldWithin n new
-  declare_within root name kind answer new e =
+  declare_within takes root name kind answer new e =
       let after = without (with_declared v (full_pattern root name) (declared.Typed kind)) (is_meant false (full_pattern root name)) in
       let by : (b : Bool) → HoldWithin n (cond {A = Result (Unit {0}) BadDeclaration × Variables} b (Err (record {}), v) (Ok tt, after)).1 =
       λ b. elim b as (λ b. HoldWithin n (cond {A = Result (Unit {0}) BadDeclaration × Variables} b (Err (record {}), v) (Ok tt, after)).1) [
         | true ↦ within
-        | false ↦ held_without (is_meant false (full_pattern root name))
+        | false ↦ held_without takes (is_meant false (full_pattern root name))
       ] in
       subst (λ (w : Variables). HoldWithin n w) (sym (ap (λ pair. pair.1) e)) (by (is_below_macro (macro_at v root) name))
 
-  pub store_within : (made : Bool) (root : ℕ) (name : List Part) (value : Value) (answer : Result (Unit {0}) WrongType) (new : Variables)
+  pub store_within : PutsOne → (made : Bool) (root : ℕ) (name : List Part) (value : Value) (answer : Result (Unit {0}) WrongType) (new : Variables)
       → (answer, new) ≡ variables.store_as made v root name value → reach value ≤ n → HoldWithin n new
-  store_within made root name value answer new e h =
+  store_within puts made root name value answer new e h =
       let after = with_variable v root name (record { value = value; made = made }) in
       let by : (b : Bool) → HoldWithin n (cond {A = Result (Unit {0}) WrongType × Variables} b (Ok tt, after) (Err (record {}), v)).1 =
       λ b. elim b as (λ b. HoldWithin n (cond {A = Result (Unit {0}) WrongType × Variables} b (Ok tt, after) (Err (record {}), v)).1) [
-        | true ↦ held_with root name (record { value = value; made = made }) h
+        | true ↦ held_with puts root name (record { value = value; made = made }) h
         | false ↦ within
       ] in
       subst (λ (w : Variables). HoldWithin n w) (sym (ap (λ pair. pair.1) e)) (by (is_kind (wanted_kind v root name) (kind_of value)))
 
--- how many unknowns an answer made
-abbrev pub made_count : Fresh → ℕ
-made_count (Made serial) = 1
-made_count Limit = 0
+-- and with fewer names of unknowns
+pub with_fewer_names : {past : Meaning} {count : ℕ} {variables : Variables} {slots : List (Option Value)} {events : List Event} (serials : List ℕ) (old new : Unknowns)
+    → new ≡ without_names old serials → IsKept past count old variables slots events → IsKept past count new variables slots events
+with_fewer_names {past = past} {count = count} {variables = variables} {slots = slots} {events = events} serials old new taken is =
+    let same = states_without_names serials old in
+    subst (λ (u : Unknowns). IsKept past count u variables slots events) (sym taken) (record {
+      past_is = is.past_is;
+      counted = is.counted ∙ sym (ap length same);
+      within = subst (λ (states : States). AreWithin states variables slots) (sym same) is.within;
+      history = events_without_names serials old is.history;
+    })
 
--- what holds after a wish for one more unknown
-pub record Freshened (before after : Unknowns) (v : Variables) (slots : List (Option Value)) (answer : Fresh) : Type 0 where
-  pub counted : length after.states ≡ length before.states + made_count answer
-  pub within : AreWithin after.states v slots
-  pub reached : reach_of_fresh answer ≤ length after.states
+-- unknowns with the same states differ by their names
+pub with_states : (symbols : Table Meaning) (variables : Variables) (slots : List (Option Value)) (events : List Event) (lines : List ℕ) (now before : Unknowns) → now.states ≡ before.states
+    → ◌≡◌ {A = State} (record { symbols = symbols; variables = variables; slots = slots; unknowns = now; events = events; lines = lines })
+    (record { symbols = symbols; variables = variables; slots = slots; unknowns = record before { names = now.names }; events = events; lines = lines })
+with_states symbols variables slots events lines now before same =
+    ap (λ (states : States). record { symbols = symbols; variables = variables; slots = slots; unknowns = record now { states = states }; events = events; lines = lines }) same
 
-module _ (before : Unknowns) (v : Variables) (slots : List (Option Value)) (is : AreWithin before.states v slots) where
-  more_within : length before.states < 1000000 → AreWithin (with_fresh before.states) v slots
-  more_within less =
+-- an unknown that was made: the unknowns before and after it
+module _ (before : Unknowns) (name : List ℕ) (serial : ℕ) (after : Unknowns) (exact : (Made serial, after) ≡ fresh_of before name) where
+  made_by : (b : Bool) → nat_lt (length before.states) UNKNOWN_LIMIT ≡ b
+      → (Made serial, after) ≡ cond {A = Fresh × Unknowns} b (Made (length before.states + 1), record { states = with_fresh before.states; names = before.names ++ Some name ∷ [] }) (Limit, before)
+      → (length before.states < UNKNOWN_LIMIT) × (serial ≡ length before.states + 1) × (after.states ≡ with_fresh before.states)
+  made_by true test e = (grind (arith, nat_tests), serial_is (ap (λ pair. pair.0) e), ap (λ pair. pair.1.states) e)
+    where
+      serial_is : {a b : ℕ} → Made a ≡ Made b → a ≡ b
+      serial_is e = cc
+  made_by false test e = absurd (other (ap (λ pair. pair.0) e))
+    where
+      other : {a : ℕ} → Made a ≡ Limit → ⊥
+      other e = cc
+
+  pub made_is : (length before.states < UNKNOWN_LIMIT) × (serial ≡ length before.states + 1) × (after.states ≡ with_fresh before.states)
+  made_is = made_by (nat_lt (length before.states) UNKNOWN_LIMIT) refl exact
+
+  pub length_made : length after.states ≡ length before.states + 1
+  length_made = ap length made_is.2 ∙ length-append before.states (None ∷ [])
+
+  pub made_reached : reach_of_fresh (Made serial) ≤ length after.states
+  made_reached = omega (arith, length_made, reach_of_counted (length before.states) serial made_is.1)
+
+  within_made : {v : Variables} {slots : List (Option Value)} → AreWithin before.states v slots → AreWithin after.states v slots
+  within_made {v = v} {slots = slots} is =
       let n = length before.states in
-      let m = length (with_fresh before.states) in
-      let more : m ≡ n + 1 = length-append before.states (None ∷ []) in
+      let m = length after.states in
+      let forms : All (λ known. reach_of_known known ≤ m) (with_fresh before.states) =
+          All-push (λ known. reach_of_known known ≤ m) before.states None
+          (All-weaker (λ known. reach_of_known known ≤ n) (λ known. reach_of_known known ≤ m) (λ known h. omega (arith, length_made, h)) before.states is.forms) (omega arith) in
       record {
-        few = omega (arith, more, less);
-        forms = All-push (λ known. reach_of_known known ≤ m) before.states None
-            (All-weaker (λ known. reach_of_known known ≤ n) (λ known. reach_of_known known ≤ m) (λ known h. omega (arith, more, h)) before.states is.forms) (omega arith);
-        held = λ name. omega (arith, more, is.held name);
-        filled = All-weaker (λ slot. reach_of_slot slot ≤ n) (λ slot. reach_of_slot slot ≤ m) (λ slot h. omega (arith, more, h)) slots is.filled;
+        few = omega (arith, length_made, made_is.0);
+        forms = subst (λ (states : States). All (λ known. reach_of_known known ≤ m) states) (sym made_is.2) forms;
+        held = λ name. omega (arith, length_made, is.held name);
+        filled = All-weaker (λ slot. reach_of_slot slot ≤ n) (λ slot. reach_of_slot slot ≤ m) (λ slot h. omega (arith, length_made, h)) slots is.filled;
       }
 
-  freshened_by : (b : Bool) (name : List ℕ) (answer : Fresh) (after : Unknowns) → nat_lt (length before.states) 1000000 ≡ b
-      → (answer, after) ≡ cond {A = Fresh × Unknowns} b (Made (length before.states + 1), record { states = with_fresh before.states; names = before.names ++ Some name ∷ [] }) (Limit, before)
-      → Freshened before after v slots answer
-  freshened_by true name answer after test e =
-      let n = length before.states in
-      let less : n < 1000000 = grind (arith, nat_tests) in
-      let more : length (with_fresh before.states) ≡ n + 1 = length-append before.states (None ∷ []) in
-      let P : Fresh × Unknowns → Type 0 = λ p. Freshened before p.1 v slots p.0 in
-      subst P (sym e) (record { counted = more; within = more_within less; reached = omega (arith, more, reach_of_counted n (n + 1) refl) })
-  freshened_by false name answer after test e =
-      let P : Fresh × Unknowns → Type 0 = λ p. Freshened before p.1 v slots p.0 in
-      subst P (sym e) (record { counted = omega arith; within = is; reached = omega arith })
+  pub with_unknown : {past : Meaning} {count : ℕ} {v : Variables} {slots : List (Option Value)} {events : List Event}
+      → IsKept past count before v slots events → IsKept past (count + 1) after v slots (events ++ event.Fresh ∷ [])
+  with_unknown is = record {
+    past_is = is.past_is;
+    counted = omega (arith, length_made, is.counted);
+    within = within_made is.within;
+    history = events_fresh before name serial after exact made_is.2 is.history;
+  }
 
-  pub freshened : (name : List ℕ) (answer : Fresh) (after : Unknowns) → (answer, after) ≡ fresh_of before name → Freshened before after v slots answer
-  freshened name answer after e = freshened_by (nat_lt (length before.states) 1000000) name answer after refl e
+-- what is kept of a state with a new event, as the code adds it
+pub with_event : {past : Meaning} {count : ℕ} {unknowns : Unknowns} {variables : Variables} {slots : List (Option Value)} (old new : List Kept) (e : Kept)
+    → new ≡ old ++ e ∷ [] → IsKept past count unknowns variables slots (map event_of old ++ event_of e ∷ []) → IsKept past count unknowns variables slots (map event_of new)
+with_event {past = past} {count = count} {unknowns = unknowns} {variables = variables} {slots = slots} old new e pushed is =
+    subst (λ (events : List Event). IsKept past count unknowns variables slots events) (sym (map_push old new e pushed)) is

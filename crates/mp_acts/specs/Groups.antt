@@ -15,7 +15,7 @@ use Rattle.mp_values.specs.declared.word.SymbolCommand.{SymbolCommand}
 use Rattle.mp_values.specs.declared.word.SymbolCommand.TheVariants as word
 use Rattle.mp_acts.specs.State.{State, symbol_meaning}
 use Rattle.mp_acts.specs.Operands.{operand, known}
-use Rattle.mp_acts.specs.Variables.{without_root}
+use Rattle.mp_acts.specs.Variables.{without_root, IsForgetting}
 
 abbrev pub with_symbols : State → Table Meaning → State
 with_symbols s symbols = record s { symbols = symbols }
@@ -57,7 +57,7 @@ undone_times (suc n) symbols = (table.close_group (undone_times n symbols)).1
 pub record IsUndoneInPart (old new : State) : Type 0 where
   pub times : ℕ
   pub undone : new.symbols ≡ undone_times times old.symbols
-  pub rest : new ≡ record old { symbols = new.symbols; variables = new.variables; unknowns = record old.unknowns { names = new.unknowns.names } }
+  pub rest : IsForgetting (with_symbols old new.symbols) new
 
 -- a symbol becomes a new tag, up to the end of the group; a number past the symbols changes nothing
 unfoldable pub save : ℕ → State → State

@@ -8,6 +8,7 @@ pub mod Lines
 pub mod Variables
 pub mod Equations
 pub mod Events
+pub mod Kept
 pub mod Groups
 pub mod Start
 pub mod Tokens

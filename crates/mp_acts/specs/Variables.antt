@@ -119,6 +119,10 @@ giving_up s variables serials = nameless (record s { variables = variables }) se
 unfoldable pub without_root : ℕ → State → State
 without_root root s = giving_up s (variables.forget s.variables root) (made s.variables root [] true)
 
+-- the states differ by variables and names of unknowns alone
+abbrev pub IsForgetting : State → State → Type 0
+IsForgetting old new = new ≡ record old { variables = new.variables; unknowns = record old.unknowns { names = new.unknowns.names } }
+
 -- DECLARATIONS
 
 -- the root for the variables of a symbol that means this: the one that it has, or the next, which is used up

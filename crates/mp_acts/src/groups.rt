@@ -7,7 +7,8 @@ ghost use Rattle.mp_values.specs.declared.fault.Fault.TheVariants.{NoMemory as W
 ghost use Rattle.mp_acts.specs.State.{unknown_count};
 ghost use Rattle.mp_acts.specs.Reach.{reach};
 ghost use Rattle.mp_acts.specs.Groups as groups;
-ghost use Rattle.mp_acts.specs.Groups.{IsUndoneInPart};
+ghost use Rattle.mp_acts.specs.Groups.{IsUndoneInPart, with_symbols};
+ghost use Rattle.mp_acts.specs.Variables.{IsForgetting};
 
 use crate::{State, table};
 use mp_scaled::NoMemory;
@@ -28,6 +29,7 @@ impl State {
     /// Ends a group: what was changed for it is undone, the newest change first.
     ///
     /// Want of memory may leave the older ones.
+    #[tactic(auto, using(crate::proofs::GroupLemmas::undone_none, crate::proofs::GroupLemmas::undone_more))]
     pub fn do_end_group(&mut self) -> Result<(), Fault>
         ensures exact { Gives result self.new (change groups.end_group self.old) }
         ensures part { result ≡ Err WantOfMemory → IsUndoneInPart self.old self.new }
@@ -45,7 +47,7 @@ impl State {
         ensures last { result ≡ Ok false → self.new ≡ groups.end_group self.old }
         ensures fewer { result ≡ Ok true → length self.new.symbols.saved < length self.old.symbols.saved }
         ensures symbols { self.new.symbols ≡ (close_group self.old.symbols).1 }
-        ensures rest { self.new ≡ record self.old { symbols = self.new.symbols; variables = self.new.variables; unknowns = record self.old.unknowns { names = self.new.unknowns.names } } }
+        ensures rest { IsForgetting (with_symbols self.old self.new.symbols) self.new }
         ensures counts { unknown_count self.old ≡ unknown_count self.new }
     {
         match self.symbols.close_group() {
@@ -61,8 +63,7 @@ impl State {
     /// Forgets the variables of a tag that is taken away.
     fn forget(&mut self, given_up: Meaning) -> Result<(), NoMemory>
         ensures exact { OnOk result (self.new ≡ groups.without_tag given_up self.old) }
-        ensures symbols { self.new.symbols ≡ self.old.symbols }
-        ensures rest { self.new ≡ record self.old { symbols = self.new.symbols; variables = self.new.variables; unknowns = record self.old.unknowns { names = self.new.unknowns.names } } }
+        ensures rest { IsForgetting self.old self.new }
         ensures counts { unknown_count self.new ≡ unknown_count self.old }
     {
         match given_up {

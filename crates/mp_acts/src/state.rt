@@ -34,11 +34,10 @@ pub struct State {
 }
 
 impl Model for State {
-    ghost use Rattle.std.specs.Prelude.{◌≡◌, length, map};
-    ghost use Rattle.mp_values.specs.declared.meaning.Meaning.TheVariants.{NewTag};
+    ghost use Rattle.std.specs.Prelude.{map};
     ghost use Rattle.mp_acts.specs.State.{State};
-    ghost use Rattle.mp_acts.specs.Reach.{AreWithin};
-    ghost use Rattle.mp_acts.specs.Events.{event_of, AreEventsOf};
+    ghost use Rattle.mp_acts.specs.Events.{event_of};
+    ghost use Rattle.mp_acts.specs.Kept.{IsKept};
 
     ghost Value = { State };
 
@@ -51,7 +50,7 @@ impl Model for State {
       lines = s.lines;
     } };
 
-    ghost invariant = { λ s. (s.past ≡ NewTag) × (s.count ≡ length s.system.states) × AreWithin s.system.states s.variables s.slots.items × AreEventsOf (map event_of s.events.items) s.system };
+    ghost invariant = { λ s. IsKept s.past s.count s.system s.variables s.slots.items (map event_of s.events.items) };
 }
 
 impl State {

@@ -13,7 +13,7 @@ ghost use Rattle.mp_acts.specs.State.{unknown_count, symbol_name, symbol_meaning
 ghost use Rattle.mp_acts.specs.Reach.{reach, reach_of_serial, reach_of_fresh};
 ghost use Rattle.mp_acts.specs.Arithmetic.{known_number};
 ghost use Rattle.mp_acts.specs.Variables as variables;
-ghost use Rattle.mp_acts.specs.Variables.{IsReadInPart, SameButRoots};
+ghost use Rattle.mp_acts.specs.Variables.{IsReadInPart, IsForgetting, SameButRoots};
 
 use crate::event::Event;
 use crate::limits::UNKNOWN_LIMIT;
@@ -70,7 +70,7 @@ impl State {
         ensures whole { IsWhole result self.old self.new }
         ensures counts { unknown_count self.new ≡ unknown_count self.old }
     {
-        let root = self.variables.new_root()?;
+        let root = self.next_root()?;
         table::set_meaning(&mut self.symbols, symbol, Meaning::Tag(root));
         Ok(root)
     }
@@ -235,7 +235,8 @@ impl State {
         ensures err { OnErr result (self.new ≡ self.old) }
         ensures counts { unknown_count self.new ≡ unknown_count self.old }
     {
-        self.variables.new_root()
+        let root = self.variables.new_root()?;
+        Ok(root)
     }
 
     fn declare_root(
@@ -264,6 +265,7 @@ impl State {
     /// Takes the names of unknowns away.
     fn give_up(&mut self, serials: &[u32])
         ensures exact { self.new ≡ variables.nameless self.old serials.now }
+        ensures rest { self.new ≡ record self.old { unknowns = record self.old.unknowns { names = self.new.unknowns.names } } }
         ensures counts { unknown_count self.new ≡ unknown_count self.old }
     {
         unname_all(&mut self.system, serials);
@@ -273,6 +275,7 @@ impl State {
     #[tactic(auto, unfolding(crate::specs::Variables::without_root))]
     pub(crate) fn forget_root(&mut self, root: u32) -> Result<(), NoMemory>
         ensures exact { OnOk result (self.new ≡ variables.without_root root self.old) }
+        ensures rest { IsForgetting self.old self.new }
         ensures err { OnErr result (self.new ≡ self.old) }
         ensures counts { unknown_count self.new ≡ unknown_count self.old }
     {

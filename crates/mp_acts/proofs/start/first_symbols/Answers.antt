@@ -1,5 +1,6 @@
 use Rattle.std.proofs.Common.{map}
-use Rattle.mp_acts.specs.Start.{delimiter_entries, words, word_entry, first_internals, unbuilt_words, unbuilt_entry, first_symbols}
+use Rattle.mp_values.specs.Words.{words}
+use Rattle.mp_acts.specs.Start.{delimiter_entries, word_entry, first_internals, unbuilt_words, unbuilt_entry, first_symbols}
 use Rattle.mp_acts.proofs.TableLemmas.{first_table}
 use Rattle.mp_acts.proofs.start.first_symbols.Goals as goal
 

@@ -4,9 +4,6 @@ use Rattle.mp_acts.proofs.state.State.declare_root.Goals as goal
 
 pub invariant_of-self-in-Ok : goal.invariant_of-self-in-Ok
 invariant_of-self-in-Ok c =
-    let n = length c.self.inside.system.states in (
-      c.self.invariant.0,
-      with_variables c.self.invariant.1
-          (declare_within n c.self.inside.variables c.self.invariant.1.held c.args.root c.args.name.now c.args.kind c.in_ok-declare.field-0 c.declare.new.self c.in_ok-declare.ensures.exact),
-      c.self.invariant.2,
-    )
+    with_variables c.self.invariant
+    (declare_within (length c.self.inside.system.states) c.self.inside.variables c.self.invariant.within.held c.variables_are_a_map.ensures.takes c.args.root c.args.name.now c.args.kind
+    c.in_ok-declare.field-0 c.declare.new.self c.in_ok-declare.ensures.exact)
