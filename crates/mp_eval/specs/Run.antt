@@ -53,13 +53,18 @@ room_by false = halt (not_built (codes "long"))
 abbrev pub room_for_text : List ℕ → Rule (Unit {0})
 room_for_text bytes = room_by (nat_le (length bytes) LONGEST_TEXT)
 
--- the main file is asked for, and read to its end
-unfoldable pub main_run : List ℕ → List ℕ → Rule (Unit {0})
-main_run prelude name = do
-  bytes ← bytes_of_file name
+-- the text of the main file, behind a prelude, read to its end
+abbrev pub read_to_end : List ℕ → List ℕ → Rule (Unit {0})
+read_to_end prelude bytes = do
   room ← room_for_text bytes
   begun ← change (λ s. put_prelude prelude (put_file 1 bytes s))
   whole the
+
+-- the main file is asked for, and read to its end
+abbrev pub main_run : List ℕ → List ℕ → Rule (Unit {0})
+main_run prelude name = do
+  bytes ← bytes_of_file name
+  read_to_end prelude bytes
 
 abbrev pub no_place : Place
 no_place = record { file = 0; line = 0 }

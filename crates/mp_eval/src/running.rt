@@ -1,81 +1,95 @@
 //! A whole run: the main file is asked for, cut into items, and read to its end.
 
-ghost use Rattle.std.specs.Prelude.{◌≡◌, ◌≤◌, ◌⊎◌, [], ◌∷◌, IfOk};
-ghost use Rattle.mp_values.specs.Outcome.{Gives};
-ghost use Rattle.mp_values.specs.Refusals as refusals;
-ghost use Rattle.mp_eval.specs.Gives.{RunGives, RunsOn, ReadsAs, IsStarved, IsUnbegun, unbegun_run};
-ghost use Rattle.mp_eval.specs.Run.{Stopped, meaning_of, start, no_place, unbegun, reading_of_outcome, reading_of};
+ghost use Rattle.std.specs.Prelude.{◌≡◌, ◌≤◌, ◌+◌, ◌++◌, ◌⊎◌, [], codes, IfOk, OnOk};
+ghost use Rattle.mp_tokens.specs.Items as tokens;
+ghost use Rattle.mp_values.specs.Items.{file_items};
+ghost use Rattle.mp_acts.specs.Tokens.{with_file};
+ghost use Rattle.mp_input.specs.Lines.{items_pending};
+ghost use Rattle.mp_rules.specs.Meaning.{the};
+ghost use Rattle.mp_rules.specs.Starts.{whole};
+ghost use Rattle.mp_eval.specs.Gives.{RunGives, starved_run};
+ghost use Rattle.mp_eval.specs.Readings.{RanAs, asked_on, begun_on, only, unbegun_run, no_such_file as absent_end};
+ghost use Rattle.mp_eval.specs.Run.{read_to_end};
 
-use crate::evaluator::Evaluator;
-use crate::outcome::{Run, RunEnd, TextRun};
+use crate::name::can_be_asked;
+use crate::outcome::{Run, RunEnd};
 use mp_acts::State;
 use mp_files::{Contents, Fetched, Files, Kept, Sources};
+use mp_input::Input;
 use mp_report::{Place, SourceError};
-use mp_scaled::{Bytes, Listing, NoMemory};
+use mp_rules::{Evaluator, Finished};
+use mp_scaled::{Bytes, Listing, NoMemory, Shared};
 use mp_values::Stop;
 use std::alloc::Global;
 
 const NO_PLACE: Place = Place { file: 0, line: 0 };
 
-/// The most bytes that a file's name may have.
-const LONGEST_NAME: usize = 255;
-
 /// The most bytes of a text that is built.
-const LONGEST_TEXT: usize = 65536;
+pub const LONGEST_TEXT: usize = 65536;
 
-impl Evaluator {
-    /// Reads the text to its end.
-    #[tactic(auto, unfolding(crate::specs::Run::meaning_of))]
-    pub(crate) fn run(&mut self) -> Result<(), Stop>
-        ensures meaning { Gives result self.new (meaning_of self.old) }
-        ensures kept { self.new.budget ≡ self.old.budget }
-    {
-        let first = self.front()?;
-        self.statements(first)?;
-        Ok(())
-    }
-}
-
-/// A text that is not built, and is refused before its first step.
-fn not_built(alloc: Global, what: &[u8]) -> Result<TextRun, NoMemory>
-    ensures reads { IfOk result (λ read. ReadsAs read (unbegun (Stopped (refusals.not_built what.now) no_place))) }
-    ensures none { IfOk result (λ read. read.steps ≡ 0) }
+/// Puts the items of a file in front of the text, and its names into the table.
+fn put_file(
+    acts: &mut State,
+    input: &mut Input,
+    number: u32,
+    bytes: &[u8],
+) -> Result<(), NoMemory>
+    requires { 1 ≤ input.old.spare }
+    ensures acts { OnOk result (acts.new ≡ with_file acts.old bytes.now) }
+    ensures text { OnOk result (input.new.text ≡ items_pending (file_items number (tokens.tokens_in acts.new.symbols.names (tokens.file_items bytes.now))) ++ input.old.text) }
+    ensures last { input.new.last ≡ input.old.last }
+    ensures spare { OnOk result (input.old.spare ≤ input.new.spare + 1) }
 {
-    let what = Bytes::copy_of(alloc, what)?;
-    Ok(TextRun {
-        lines: Bytes::new(alloc),
-        steps: 0,
-        unknowns: 0,
-        equations: 0,
-        end: RunEnd::Source(SourceError::NotBuilt(what), NO_PLACE),
-    })
+    let tokens = acts.tokens_of_file(bytes)?;
+    input.push_file(number, Shared::new(tokens)?);
+    Ok(())
 }
 
-/// An evaluator at the start of the bytes of file 1.
-fn evaluator_of(alloc: Global, bytes: &[u8], budget: u64) -> Result<Evaluator, NoMemory>
-    ensures { IfOk result (λ evaluator. evaluator ≡ start bytes.now budget) }
+/// An evaluator at the start of the text of the one source, behind a prelude.
+fn evaluator_of(
+    alloc: Global,
+    prelude: &[u8],
+    name: &[u8],
+    bytes: Bytes,
+    budget: u64,
+) -> Result<Evaluator, NoMemory>
+    ensures { IfOk result (λ e. e ≡ begun_on (only name.now (Contents.Here bytes)) prelude.now bytes budget) }
 {
     let mut acts = State::new(alloc)?;
-    let tokens = acts.tokens_of_file(bytes)?;
-    Ok(Evaluator::new(alloc, tokens, acts, budget))
+    let mut input = Input::new(alloc);
+    input.reserve(2)?;
+    put_file(&mut acts, &mut input, 1, bytes.as_slice())?;
+    if !prelude.is_empty() {
+        put_file(&mut acts, &mut input, 0, prelude)?;
+    }
+    let sources = one_source(alloc, name, Contents::Here(bytes))?;
+    Ok(Evaluator::new(alloc, sources, input, acts, budget))
 }
 
-fn read_built(alloc: Global, bytes: &[u8], budget: u64) -> Result<TextRun, NoMemory>
-    ensures reads { IfOk result (λ read. ReadsAs read (reading_of_outcome (meaning_of (start bytes.now budget)))) }
-    ensures within { IfOk result (λ read. read.steps ≤ budget) }
+/// Reads a text to its end.
+fn run_begun(alloc: Global, begun: Evaluator) -> Result<Run, NoMemory>
+    ensures ran { IfOk result (λ run. RanAs run (whole the begun) begun) }
+    ensures within { IfOk result (λ run. run.steps ≤ begun.budget) }
 {
-    let mut evaluator = evaluator_of(alloc, bytes, budget)?;
+    let mut evaluator = begun;
     let end = match evaluator.run() {
         Ok(()) => RunEnd::Done,
         Err(Stop::Refused(error)) => RunEnd::Source(error, evaluator.place()),
         Err(Stop::OutOfSteps) => RunEnd::OutOfSteps,
+        Err(Stop::Unread(_)) => RunEnd::ReadFault,
         Err(Stop::NoMemory) => return Err(NoMemory),
     };
-    let (acts, steps) = evaluator.finish();
+    let Finished {
+        sources,
+        steps,
+        acts,
+    } = evaluator.finish();
     let unknowns = acts.unknowns();
     let equations = acts.equations();
-    Ok(TextRun {
+    Ok(Run {
         lines: acts.finish(),
+        figures: Listing::new(alloc),
+        sources,
         steps,
         unknowns,
         equations,
@@ -83,20 +97,8 @@ fn read_built(alloc: Global, bytes: &[u8], budget: u64) -> Result<TextRun, NoMem
     })
 }
 
-/// Reads the bytes of file 1, if they are few enough.
-#[tactic(auto, unfolding(crate::specs::Run::reading_of))]
-fn read_text(alloc: Global, bytes: &[u8], budget: u64) -> Result<TextRun, NoMemory>
-    ensures reads { IfOk result (λ read. ReadsAs read (reading_of bytes.now budget)) }
-    ensures within { IfOk result (λ read. read.steps ≤ budget) }
-{
-    if bytes.len() > LONGEST_TEXT {
-        return not_built(alloc, b"long");
-    }
-    read_built(alloc, bytes, budget)
-}
-
 fn one_source(alloc: Global, name: &[u8], contents: Contents) -> Result<Sources, NoMemory>
-    ensures { IfOk result (λ s. s ≡ record { name = name.now; contents = contents } ∷ []) }
+    ensures { IfOk result (λ s. s ≡ only name.now contents) }
 {
     let mut sources = Listing::new(alloc);
     let name = Bytes::copy_of(alloc, name)?;
@@ -119,30 +121,67 @@ fn ended(alloc: Global, sources: Sources, end: RunEnd) -> Run
     }
 }
 
+/// A run that memory ran out in keeps nothing.
+fn starved(alloc: Global) -> Run
+    ensures { result ≡ starved_run }
+{
+    ended(alloc, Listing::new(alloc), RunEnd::NoMemory)
+}
+
+/// The run of a text that is not built, since it is too long.
+fn run_long(alloc: Global, name: &[u8], bytes: Bytes) -> Result<Run, NoMemory>
+    ensures { IfOk result (λ run. run ≡ unbegun_run (only name.now (Contents.Here bytes)) (RunEnd.Source (SourceError.NotBuilt (codes "long")) (record { file = 0; line = 0 }))) }
+{
+    let sources = one_source(alloc, name, Contents::Here(bytes))?;
+    let what = Bytes::copy_of(alloc, b"long")?;
+    Ok(ended(alloc, sources, RunEnd::Source(SourceError::NotBuilt(what), NO_PLACE)))
+}
+
+#[tactic(auto, using(crate::proofs::Readings::long_ran, crate::proofs::Readings::short_ran))]
+fn try_run_on(
+    alloc: Global,
+    prelude: &[u8],
+    name: &[u8],
+    bytes: Bytes,
+    budget: u64,
+) -> Result<Run, NoMemory>
+    ensures ran { IfOk result (λ run. RanAs run (read_to_end prelude.now bytes (asked_on (only name.now (Contents.Here bytes)) budget)) (asked_on (only name.now (Contents.Here bytes)) budget)) }
+    ensures within { IfOk result (λ run. run.steps ≤ budget) }
+{
+    if bytes.as_slice().len() > LONGEST_TEXT {
+        return run_long(alloc, name, bytes);
+    }
+    run_begun(alloc, evaluator_of(alloc, prelude, name, bytes, budget)?)
+}
+
+/// The run over the bytes that were fetched.
+fn run_on(alloc: Global, prelude: &[u8], name: &[u8], bytes: Bytes, budget: u64) -> Run
+    ensures ran { (result ≡ starved_run) ⊎ RanAs result (read_to_end prelude.now bytes (asked_on (only name.now (Contents.Here bytes)) budget)) (asked_on (only name.now (Contents.Here bytes)) budget) }
+    ensures within { result.steps ≤ budget }
+{
+    match try_run_on(alloc, prelude, name, bytes, budget) {
+        Ok(run) => run,
+        Err(NoMemory) => starved(alloc),
+    }
+}
+
 fn no_such_file(alloc: Global, name: &[u8]) -> Result<RunEnd, NoMemory>
-    ensures { IfOk result (λ end. end ≡ RunEnd.Source (SourceError.NoSuchFile name.now) (record { file = 0; line = 0 })) }
+    ensures { IfOk result (λ end. end ≡ absent_end name.now) }
 {
     let name = Bytes::copy_of(alloc, name)?;
     Ok(RunEnd::Source(SourceError::NoSuchFile(name), NO_PLACE))
 }
 
-/// A run that memory ran out in keeps nothing.
-fn starved(alloc: Global) -> Run
-    ensures { IsStarved result }
-{
-    ended(alloc, Listing::new(alloc), RunEnd::NoMemory)
-}
-
-/// The run of a name whose file cannot be read.
+/// The run of a source that cannot be read.
 fn run_unread(alloc: Global) -> Run
-    ensures { IsUnbegun result [] RunEnd.ReadFault }
+    ensures { result ≡ unbegun_run [] RunEnd.ReadFault }
 {
     ended(alloc, Listing::new(alloc), RunEnd::ReadFault)
 }
 
 /// The run of a name that is never asked for.
 fn run_unasked(alloc: Global, name: &[u8]) -> Run
-    ensures { IsStarved result ⊎ IsUnbegun result [] (RunEnd.Source (SourceError.NoSuchFile name.now) (record { file = 0; line = 0 })) }
+    ensures { (result ≡ starved_run) ⊎ (result ≡ unbegun_run [] (absent_end name.now)) }
 {
     match no_such_file(alloc, name) {
         Ok(end) => ended(alloc, Listing::new(alloc), end),
@@ -152,7 +191,7 @@ fn run_unasked(alloc: Global, name: &[u8]) -> Run
 
 /// The run of a name that no file has.
 fn run_absent(alloc: Global, name: &[u8]) -> Run
-    ensures { IsStarved result ⊎ IsUnbegun result (record { name = name.now; contents = Contents.Absent } ∷ []) (RunEnd.Source (SourceError.NoSuchFile name.now) (record { file = 0; line = 0 })) }
+    ensures { (result ≡ starved_run) ⊎ (result ≡ unbegun_run (only name.now Contents.Absent) (absent_end name.now)) }
 {
     match (
         no_such_file(alloc, name),
@@ -163,49 +202,28 @@ fn run_absent(alloc: Global, name: &[u8]) -> Run
     }
 }
 
-fn try_run_on(alloc: Global, name: &[u8], bytes: Bytes, budget: u64) -> Result<Run, NoMemory>
-    ensures { IfOk result (RunsOn name.now budget bytes) }
-{
-    let TextRun {
-        lines,
-        steps,
-        unknowns,
-        equations,
-        end,
-    } = read_text(alloc, bytes.as_slice(), budget)?;
-    let sources = one_source(alloc, name, Contents::Here(bytes))?;
-    Ok(Run {
-        lines,
-        figures: Listing::new(alloc),
-        sources,
-        steps,
-        unknowns,
-        equations,
-        end,
-    })
-}
-
-/// The run over the bytes that were fetched.
-fn run_on(alloc: Global, name: &[u8], bytes: Bytes, budget: u64) -> Run
-    ensures { IsStarved result ⊎ RunsOn name.now budget bytes result }
-{
-    match try_run_on(alloc, name, bytes, budget) {
-        Ok(run) => run,
-        Err(NoMemory) => starved(alloc),
-    }
-}
-
-/// Runs the main file of that name, with at most so many items taken.
-pub fn run<F: Files>(alloc: Global, name: &[u8], budget: u64, files: &mut F) -> Run
-    ensures course { RunGives name.now budget result (F.seen files.old) (F.seen files.new) }
+/// Runs the main file of that name behind a prelude, with at most so many items taken.
+///
+/// The prelude is read as file 0, and its items stand before those of the main file; an empty one has none. The seed is
+/// that of the random words, which nothing draws yet.
+pub fn run<F: Files>(
+    alloc: Global,
+    prelude: &[u8],
+    main: &[u8],
+    budget: u64,
+    seed: u32,
+    files: &mut F,
+) -> Run
+    ensures course { RunGives prelude.now main.now budget result (F.seen files.old) (F.seen files.new) }
     ensures within { result.steps ≤ budget }
 {
-    if name.len() > LONGEST_NAME {
-        return run_unasked(alloc, name);
+    let _ = seed;
+    if !can_be_asked(main) {
+        return run_unasked(alloc, main);
     }
-    match files.fetch(alloc, name) {
-        Fetched::Got(bytes) => run_on(alloc, name, bytes, budget),
-        Fetched::Absent => run_absent(alloc, name),
+    match files.fetch(alloc, main) {
+        Fetched::Got(bytes) => run_on(alloc, prelude, main, bytes, budget),
+        Fetched::Absent => run_absent(alloc, main),
         Fetched::Failed => run_unread(alloc),
         Fetched::NoMemory => starved(alloc),
     }

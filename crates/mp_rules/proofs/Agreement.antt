@@ -6,11 +6,11 @@ use Rattle.mp_acts.specs.State.{State}
 use Rattle.mp_rules.specs.Machine.{Machine, Outcome, Rule, weight, left}
 use Rattle.mp_rules.specs.Steps.{in_machine}
 
--- a run that is out of steps has used up its budget
+-- a run that is out of steps has used up its budget, and no rule asks for a file yet
 abbrev pub IsSpent : Cause → Machine → Type 0
 IsSpent (Refused error) t = Unit {0}
 IsSpent OutOfSteps t = t.budget ≤ t.steps
-IsSpent (Unread name) t = Unit {0}
+IsSpent (Unread name) t = ⊥
 
 -- at its end an outcome's answer and machine are such
 abbrev pub After : {A : Type 0} → Outcome A → (A → Machine → Type 0) → Type 0

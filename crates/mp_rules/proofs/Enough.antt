@@ -42,17 +42,19 @@ use Rattle.mp_acts.specs.Groups.{begin_group, end_group, with_each, let_symbol, 
 use Rattle.mp_acts.specs.declared.target.Target.{Target}
 use Rattle.mp_acts.specs.declared.target.Target.TheVariants as target
 use Rattle.mp_rules.specs.Machine.{Machine, weight, held_weight, coming, left}
-use Rattle.mp_rules.specs.Fronts.{front_of_meaning, refused_front, refused_raw, begins_primary, begins_factor, secondary_in, tertiary_in}
+use Rattle.mp_rules.specs.Fronts.{front_of_meaning, taken_item, taken_as, refused_front, refused_raw, begins_primary, begins_factor, secondary_in, tertiary_in}
 use Rattle.mp_rules.specs.Steps.{take_first, take_from, enter, leave, see, see_string, hold}
 use Rattle.mp_rules.specs.Chains.{settle}
 use Rattle.mp_rules.specs.declared.front.Front.{Front}
 use Rattle.mp_rules.specs.declared.front.Front.TheVariants as front
+use Rattle.mp_rules.specs.declared.front.Taken.{Taken}
+use Rattle.mp_rules.specs.declared.front.Taken.TheVariants as taken
 use Rattle.mp_rules.specs.declared.front.Raw.{Raw}
 use Rattle.mp_rules.specs.declared.front.Raw.TheVariants as raw
 use Rattle.mp_rules.specs.declared.chain_side.ChainSide.{ChainSide as Side}
 use Rattle.mp_rules.specs.declared.chain_side.ChainSide.TheVariants as side
 use Rattle.mp_rules.specs.Rules.{Rules, What, NextFront, NextRaw, NumberThen, Factor, VariableName, Suffix, Group, PrimaryInside, Primary, Leading, SecondaryRest, Secondary, TertiaryRest, ExpressionFrom, Expression, ChainSide, ChainRest, Chain, ShowList, SymbolList, DeclaredName, TypeList, CommandRest, Statement, GroupStatements, Statements}
-use Rattle.mp_rules.specs.Rules.{shape_of, front_of_symbol, front_of_item, front_of, held_or_taken, next_front, raw_of_item, raw_of, next_raw, symbol_in, raw_symbol, next_primary, next_expression, factor_by, over_by, then_by, number, room_by, room_for_part, part_on, bracket_by, bracketed, suffix_by, variable_name, variable, are_pair, closed_if, closed_by, closed, parenthesis, group, string_primary, internal, str_primary, applied, applied_by, primary_by, primary, variable_side_by, internal_side_by, leading_by, leading, secondary_by, secondary, tertiary_by, expression_from, expression, side_from, chain_side, chain_on, lone_or_vacuous, chain_end, chain_by, chain, show_by, show_list, symbols_by, symbol_list, shape_on, empty_by, name_by, type_by, type_list, is_equals, equals_by, equals_in, raw_equals, let_equal, delimiter_pair, internal_in, assign_in, internal_name, assign_sign, interim_value, spoken, command_rest, chain_if, statement_by, statement, may_stand_alone, more_by, group_more, group_by, group_statements, end_by, statements, case}
+use Rattle.mp_rules.specs.Rules.{shape_of, front_of_symbol, front_of, held_or_taken, next_front, raw_of, next_raw, symbol_in, raw_symbol, next_primary, next_expression, factor_by, over_by, then_by, number, room_by, room_for_part, part_on, bracket_by, bracketed, suffix_by, variable_name, variable, are_pair, closed_if, closed_by, closed, parenthesis, group, string_primary, internal, str_primary, applied, applied_by, primary_by, primary, variable_side_by, internal_side_by, leading_by, leading, secondary_by, secondary, tertiary_by, expression_from, expression, side_from, chain_side, chain_on, lone_or_vacuous, chain_end, chain_by, chain, show_by, show_list, symbols_by, symbol_list, shape_on, empty_by, name_by, type_by, type_list, is_equals, equals_by, equals_in, raw_equals, let_equal, delimiter_pair, internal_in, assign_in, internal_name, assign_sign, interim_value, spoken, command_rest, chain_if, statement_by, statement, may_stand_alone, more_by, group_more, group_by, group_statements, end_by, statements, case}
 use Rattle.mp_rules.specs.Promises.{from, cost, used_by, used_by_side}
 use Rattle.mp_rules.specs.Meaning.{rule, the, depth}
 use Rattle.mp_rules.proofs.Agreement.{After, Agree, AsMany, IsSpent, agree-then, weaker, stopped, given, acted}
@@ -72,9 +74,30 @@ pub record Below (r1 r2 : Rules) (m : ℕ) : Type 0 where
 -- ONE STEP
 
 -- the first of the text was taken
-pub record Taken (x : Option Pending) (s t : Machine) : Type 0 where
+pub record TookOne (x : Option Pending) (s t : Machine) : Type 0 where
   pub went : coming t + cost x ≤ coming s
   pub hand : t.front ≡ s.front
+
+-- what was taken took a step, but for nothing
+abbrev taken_cost : Taken → ℕ
+taken_cost taken.Nothing = 0
+taken_cost x = 1
+
+cost_of_item : (x : Item) → taken_cost (taken_item x) ≤ 1
+cost_of_item (item.Symbol symbol) = omega arith
+cost_of_item (item.Number n) = omega arith
+cost_of_item (item.Text bytes) = omega arith
+cost_of_item (item.Bad cause) = omega arith
+cost_of_item (item.Capsule v) = omega arith
+cost_of_item (item.Param number) = omega arith
+cost_of_item (item.LineEnd place) = omega arith
+cost_of_item item.FileEnd = omega arith
+cost_of_item item.EndOfText = omega arith
+
+cost_of_taken : (x : Option Pending) → taken_cost (taken_as x) ≤ cost x
+cost_of_taken (Some (pending.Item x)) = cost_of_item x
+cost_of_taken (Some (pending.Turn turn)) = omega arith
+cost_of_taken None = omega arith
 
 weight_small : (x : Front) → weight x ≤ 1
 weight_small (front.Number n) = omega arith
@@ -86,11 +109,11 @@ weight_small (front.Left symbol pair) = omega arith
 weight_small (front.Right symbol pair) = omega arith
 weight_small front.EndOfText = omega arith
 
-taken_from : (text : List Pending) (s : Machine) → After (take_from text s) (λ x. Taken x s)
+taken_from : (text : List Pending) (s : Machine) → After (take_from text s) (λ x. TookOne x s)
 taken_from [] s = record { went = omega arith; hand = refl }
 taken_from (x ∷ text) s = grind (arith, nat_tests)
 
-took : (s : Machine) → Agree (take_first s) (take_first s) (λ x. Taken x s)
+took : (s : Machine) → Agree (take_first s) (take_first s) (λ x. TookOne x s)
 unfolding take_first
 took s = record { same = refl; went = taken_from s.text s }
 
@@ -123,26 +146,17 @@ front_of_symbol-agrees symbol b t p =
     let F : Machine → Type 0 = λ w. Agree {A = Unit {0}} (Ok (tt, see x w)) (Ok (tt, see x w)) (λ next. Fewer b) in
     subst F (sym e) (seen x b t p))
 
--- an item, which was taken
-item_front-agrees : (r1 r2 : Rules) (x : Item) (b : ℕ) (t : Machine) → coming t + 1 ≤ b → Below r1 r2 (64 * b) → Agree (front_of_item r1 x t) (front_of_item r2 x t) (λ next. Fewer b)
-item_front-agrees r1 r2 (item.Symbol symbol) b t p h = front_of_symbol-agrees symbol b t p
-item_front-agrees r1 r2 (item.Number n) b t p h = seen (front.Number n) b t p
-item_front-agrees r1 r2 (item.Text bytes) b t p h = given tt (see_string bytes t) (λ next. Fewer b) (record { went = p })
-item_front-agrees r1 r2 (item.Bad cause) b t p h = stopped (bad_token cause) t (λ next. Fewer b) tt
-item_front-agrees r1 r2 (item.Capsule v) b t p h = weaker (h.at NextFront t (omega arith)) (λ next u q. record { went = omega arith })
-item_front-agrees r1 r2 (item.Param number) b t p h = weaker (h.at NextFront t (omega arith)) (λ next u q. record { went = omega arith })
-item_front-agrees r1 r2 (item.LineEnd place) b t p h = weaker (h.at NextFront t (omega arith)) (λ next u q. record { went = omega arith })
-item_front-agrees r1 r2 item.FileEnd b t p h = weaker (h.at NextFront t (omega arith)) (λ next u q. record { went = omega arith })
-item_front-agrees r1 r2 item.EndOfText b t p h = weaker (h.at NextFront t (omega arith)) (λ next u q. record { went = omega arith })
-
-front_of-agrees : (r1 r2 : Rules) (x : Option Pending) (s t : Machine) → Taken x s t → Below r1 r2 (64 * coming s) → Agree (front_of r1 x t) (front_of r2 x t) (λ next. Fewer (coming s))
-front_of-agrees r1 r2 (Some (pending.Item x)) s t p h = item_front-agrees r1 r2 x (coming s) t p.went h
-front_of-agrees r1 r2 (Some (pending.Turn turn)) s t p h = let went : coming t + 1 ≤ coming s = p.went in weaker (h.at NextFront t (omega arith)) (λ next u q. record { went = omega arith })
-front_of-agrees r1 r2 None s t p h = given tt (see front.EndOfText t) (λ next. Fewer (coming s)) (record { went = p.went })
+front_of-agrees : (r1 r2 : Rules) (x : Taken) (b k : ℕ) (t : Machine) → coming t + k ≤ b → taken_cost x ≤ k → Below r1 r2 (64 * b) → Agree (front_of r1 x t) (front_of r2 x t) (λ next. Fewer b)
+front_of-agrees r1 r2 (taken.Symbol symbol) b k t p c h = front_of_symbol-agrees symbol b t (omega arith)
+front_of-agrees r1 r2 (taken.Number n) b k t p c h = seen (front.Number n) b t (omega arith)
+front_of-agrees r1 r2 (taken.Text bytes) b k t p c h = given tt (see_string bytes t) (λ next. Fewer b) (record { went = omega arith })
+front_of-agrees r1 r2 (taken.Bad cause) b k t p c h = stopped (bad_token cause) t (λ next. Fewer b) tt
+front_of-agrees r1 r2 taken.Passed b k t p c h = weaker (h.at NextFront t (omega arith)) (λ next u q. record { went = omega arith })
+front_of-agrees r1 r2 taken.Nothing b k t p c h = given tt (see front.EndOfText t) (λ next. Fewer b) (record { went = omega arith })
 
 held-agrees : (r1 r2 : Rules) (held : Option Front) (s : Machine) → held_weight held ≤ held_weight s.held → Below r1 r2 (64 * coming s) → Agree (held_or_taken r1 held s) (held_or_taken r2 held s) (λ next. Fewer (coming s))
 held-agrees r1 r2 (Some x) s p h = given tt (record s { front = x; held = None }) (λ next. Fewer (coming s)) (record { went = omega arith })
-held-agrees r1 r2 None s p h = agree-then (took s) (λ x t q. front_of-agrees r1 r2 x s t q h)
+held-agrees r1 r2 None s p h = agree-then (took s) (λ x t q. front_of-agrees r1 r2 (taken_as x) (coming s) (cost x) t q.went (cost_of_taken x) h)
 
 next_front-agrees : (r1 r2 : Rules) (s : Machine) → Below r1 r2 (64 * coming s) → Agree (next_front r1 s) (next_front r2 s) (λ next. Fewer (coming s))
 next_front-agrees r1 r2 s h = held-agrees r1 r2 s.held s (omega arith) h
@@ -150,26 +164,18 @@ next_front-agrees r1 r2 s h = held-agrees r1 r2 s.held s (omega arith) h
 raw_given : (x : Raw) (s t : Machine) (k : ℕ) → coming t + k ≤ coming s → t.front ≡ front.EndOfText → Agree (Ok (x, t)) (Ok (x, t)) (λ next. Fewer (coming s))
 raw_given x s t k p e = let none : weight t.front ≡ 0 = ap weight e in given x t (λ next. Fewer (coming s)) (record { went = omega arith })
 
-item_raw-agrees : (r1 r2 : Rules) (x : Item) (s t : Machine) → coming t + 1 ≤ coming s → t.front ≡ front.EndOfText → Below r1 r2 (64 * coming s) → Agree (raw_of_item r1 x t) (raw_of_item r2 x t) (λ next. Fewer (coming s))
-item_raw-agrees r1 r2 (item.Symbol symbol) s t p e h = raw_given (raw.Symbol symbol) s t 1 p e
-item_raw-agrees r1 r2 (item.Number n) s t p e h = raw_given raw.Number s t 1 p e
-item_raw-agrees r1 r2 (item.Text bytes) s t p e h = raw_given raw.Text s t 1 p e
-item_raw-agrees r1 r2 (item.Bad cause) s t p e h = stopped (bad_token cause) t (λ next. Fewer (coming s)) tt
-item_raw-agrees r1 r2 (item.Capsule v) s t p e h = weaker (h.at NextRaw t (omega arith)) (λ next u q. record { went = omega arith })
-item_raw-agrees r1 r2 (item.Param number) s t p e h = weaker (h.at NextRaw t (omega arith)) (λ next u q. record { went = omega arith })
-item_raw-agrees r1 r2 (item.LineEnd place) s t p e h = weaker (h.at NextRaw t (omega arith)) (λ next u q. record { went = omega arith })
-item_raw-agrees r1 r2 item.FileEnd s t p e h = weaker (h.at NextRaw t (omega arith)) (λ next u q. record { went = omega arith })
-item_raw-agrees r1 r2 item.EndOfText s t p e h = weaker (h.at NextRaw t (omega arith)) (λ next u q. record { went = omega arith })
-
-raw_of-agrees : (r1 r2 : Rules) (x : Option Pending) (s t : Machine) → Taken x s t → t.front ≡ front.EndOfText → Below r1 r2 (64 * coming s) → Agree (raw_of r1 x t) (raw_of r2 x t) (λ next. Fewer (coming s))
-raw_of-agrees r1 r2 (Some (pending.Item x)) s t p e h = item_raw-agrees r1 r2 x s t p.went e h
-raw_of-agrees r1 r2 (Some (pending.Turn turn)) s t p e h = let went : coming t + 1 ≤ coming s = p.went in weaker (h.at NextRaw t (omega arith)) (λ next u q. record { went = omega arith })
-raw_of-agrees r1 r2 None s t p e h = raw_given raw.EndOfText s t 0 p.went e
+raw_of-agrees : (r1 r2 : Rules) (x : Taken) (s t : Machine) (k : ℕ) → coming t + k ≤ coming s → taken_cost x ≤ k → t.front ≡ front.EndOfText → Below r1 r2 (64 * coming s) → Agree (raw_of r1 x t) (raw_of r2 x t) (λ next. Fewer (coming s))
+raw_of-agrees r1 r2 (taken.Symbol symbol) s t k p c e h = raw_given (raw.Symbol symbol) s t k p e
+raw_of-agrees r1 r2 (taken.Number n) s t k p c e h = raw_given raw.Number s t k p e
+raw_of-agrees r1 r2 (taken.Text bytes) s t k p c e h = raw_given raw.Text s t k p e
+raw_of-agrees r1 r2 (taken.Bad cause) s t k p c e h = stopped (bad_token cause) t (λ next. Fewer (coming s)) tt
+raw_of-agrees r1 r2 taken.Passed s t k p c e h = weaker (h.at NextRaw t (omega arith)) (λ next u q. record { went = omega arith })
+raw_of-agrees r1 r2 taken.Nothing s t k p c e h = raw_given raw.EndOfText s t k p e
 
 next_raw-agrees : (r1 r2 : Rules) (s : Machine) → Below r1 r2 (64 * coming s) → Agree (next_raw r1 s) (next_raw r2 s) (λ next. Fewer (coming s))
 next_raw-agrees r1 r2 s h =
     let used : Machine = see front.EndOfText s in
-    agree-then (took used) (λ x t p. raw_of-agrees r1 r2 x used t p p.hand h)
+    agree-then (took used) (λ x t p. raw_of-agrees r1 r2 (taken_as x) used t (cost x) p.went (cost_of_taken x) p.hand h)
 
 symbol_in-agrees : (x : Raw) (s : Machine) → Agree (symbol_in x s) (symbol_in x s) (λ symbol. AsMany s)
 symbol_in-agrees (raw.Symbol symbol) s = given symbol s (λ x. AsMany s) (record { went = refl; hand = refl })
@@ -303,7 +309,7 @@ group-agrees r1 r2 s h =
 internal-agrees : (r1 r2 : Rules) (k : ℕ) (m : ℕ) (s : Machine) → 64 * coming s < m → Below r1 r2 m → Agree (internal r1 k s) (internal r2 k s) (λ answer. Fewer (coming s))
 internal-agrees r1 r2 k m s c h =
     agree-then (h.at NextFront s (omega arith)) (λ next t p.
-    given (known_number (internal_value t.acts k)) t (λ answer. Fewer (coming s)) (record { went = p.went }))
+    given (known_number (internal_value t.acts k)) t (λ answer. Fewer (coming s)) (record { went = omega (arith, p.went) }))
 
 str-agrees : (r1 r2 : Rules) (m : ℕ) (s : Machine) → 64 * coming s + 1 < m → Below r1 r2 m → Agree (str_primary r1 s) (str_primary r2 s) (λ answer. Fewer (coming s))
 str-agrees r1 r2 m s c h =
@@ -339,28 +345,6 @@ primary_by-agrees r1 r2 (front.Tag symbol) m s e c h = weaker (variable-agrees r
 primary_by-agrees r1 r2 (front.Internal symbol k) m s e c h = weaker (internal-agrees r1 r2 k m s (omega arith) h) (λ v t p. record { went = omega arith })
 primary_by-agrees r1 r2 (front.Left symbol pair) m s e c h = weaker (parenthesis-agrees r1 r2 pair m s (omega arith) h) (λ v t p. record { went = omega arith })
 primary_by-agrees r1 r2 x m s e c h = stopped (refused_front (codes "primary") s) s (λ answer. Fewer (left s)) tt
-
-primary-agrees : (r1 r2 : Rules) (m : ℕ) (s : Machine) → 16 * left s < m → Below r1 r2 m → Agree (string_primary r1 s) (string_primary r2 s) (λ answer. Fewer (left s))
-string_primary-agrees r1 r2 m s c h =
-    agree-then (string-agrees s.string s) (λ v t p.
-    agree-then (h.at NextFront t (omega arith)) (λ next u q.
-    given v u (λ answer. Fewer (left s)) (record { went = omega arith })))
-
-primary_word-agrees : (r1 r2 : Rules) (symbol : ℕ) (w : Word) (m : ℕ) (s : Machine) → 1 ≤ weight s.front → 16 * left s + 1 ≤ m → Below r1 r2 m → Agree (primary_by r1 (front.Word symbol w) s) (primary_by r2 (front.Word symbol w) s) (λ answer. Fewer (left s))
-primary_word-agrees r1 r2 symbol word.Plus m s e c h = weaker (plus-agrees r1 r2 m s (omega arith) h) (λ v t p. record { went = omega arith })
-primary_word-agrees r1 r2 symbol word.Minus m s e c h = weaker (minus-agrees r1 r2 m s (omega arith) h) (λ v t p. record { went = omega arith })
-primary_word-agrees r1 r2 symbol word.Begingroup m s e c h = weaker (h.at Group s (omega arith)) (λ v t p. record { went = omega arith })
-primary_word-agrees r1 r2 symbol word.Str m s e c h = weaker (str-agrees r1 r2 m s (omega arith) h) (λ v t p. record { went = omega arith })
-primary_word-agrees r1 r2 symbol w m s e c h = stopped (refused_front (codes "primary") s) s (λ answer. Fewer (left s)) (λ e. cc)
-
-primary_by-agrees : (r1 r2 : Rules) (x : Front) (m : ℕ) (s : Machine) → weight x ≤ weight s.front → 16 * left s + 1 ≤ m → Below r1 r2 m → Agree (primary_by r1 x s) (primary_by r2 x s) (λ answer. Fewer (left s))
-primary_by-agrees r1 r2 (front.Number n) m s e c h = weaker (h.at (Number n) s (omega arith)) (λ v t p. record { went = omega arith })
-primary_by-agrees r1 r2 front.Text m s e c h = string_primary-agrees r1 r2 m s (omega arith) h
-primary_by-agrees r1 r2 (front.Word symbol w) m s e c h = primary_word-agrees r1 r2 symbol w m s e c h
-primary_by-agrees r1 r2 (front.Tag symbol) m s e c h = weaker (h.at (Variable symbol) s (omega arith)) (λ v t p. record { went = omega arith })
-primary_by-agrees r1 r2 (front.Internal symbol k) m s e c h = weaker (internal-agrees r1 r2 k m s (omega arith) h) (λ v t p. record { went = omega arith })
-primary_by-agrees r1 r2 (front.Left symbol pair) m s e c h = weaker (h.at (Parenthesis pair) s (omega arith)) (λ v t p. record { went = omega arith })
-primary_by-agrees r1 r2 x m s e c h = stopped (refused_front (codes "primary") s) s (λ answer. Fewer (left s)) (λ e. cc)
 
 primary-agrees : (r1 r2 : Rules) (s : Machine) → Below r1 r2 (measure Primary s) → Agree (primary r1 s) (primary r2 s) (λ answer. Fewer (left s))
 primary-agrees r1 r2 s h =
@@ -401,7 +385,7 @@ leading_by-agrees r1 r2 (front.Internal symbol k) m s e c h =
     weaker (internal_by-agrees k t.front t) (λ answer u q. record { went = omega (arith, used_small answer) }))
 leading_by-agrees r1 r2 x m s e c h =
     agree-then (h.at PrimaryInside s (omega arith)) (λ v t p.
-    given (side.Value v) t (λ answer. FewerBy (left s) (used_by_side answer)) (record { went = p.went }))
+    given (side.Value v) t (λ answer. FewerBy (left s) (used_by_side answer)) (record { went = omega (arith, p.went) }))
 
 leading-agrees : (r1 r2 : Rules) (s : Machine) → Below r1 r2 (measure Leading s) → Agree (leading r1 s) (leading r2 s) (λ answer. FewerBy (left s) (used_by_side answer))
 leading-agrees r1 r2 s h =

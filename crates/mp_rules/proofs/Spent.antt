@@ -1,6 +1,8 @@
--- On stops: a run that is out of steps has used up its budget.
-use Rattle.std.proofs.Common.{◌≡◌, ◌≤◌, ap, subst, refl, Result, Ok, Err}
-use Rattle.mp_values.specs.Outcome.{Cause, OutOfSteps, then}
+-- On stops: a run that is out of steps has used up its budget, and none lacks a source.
+use Rattle.std.proofs.Common.{◌≡◌, ◌≤◌, ℕ, List, arith, subst, Result, Ok, Err}
+use Rattle.mp_values.specs.Outcome.{OutOfSteps, Unread, Yields, then}
+use Rattle.mp_values.specs.declared.stop.Stop.{Stop}
+use Rattle.mp_values.specs.declared.stop.Stop.TheVariants as stop
 use Rattle.mp_rules.specs.Machine.{Machine, Outcome, Rule}
 use Rattle.mp_rules.specs.Meaning.{the}
 use Rattle.mp_rules.specs.Rules.{NextFront, Statements}
@@ -23,5 +25,14 @@ spent_then (Err e) f first more = first
 spent_whole : (s : Machine) → IsSpentStop (whole the s)
 spent_whole s = spent_then (the NextFront s) (λ first. the Statements) (spent_after (the NextFront s) _ (the_went NextFront s)) (λ first t. spent_after (the Statements t) _ (the_went Statements t))
 
-pub whole_spent : (s t : Machine) → whole the s ≡ Err (OutOfSteps, t) → t.budget ≤ t.steps
-whole_spent s t is = subst (λ (o : Outcome (Unit {0})). IsSpentStop o) is (spent_whole s)
+-- a function that reads the whole: where it is out of steps, and whether it lacks a file
+pub run_spent : (s t : Machine) (result : Result (Unit {0}) Stop) → Yields result t (whole the s) → t.steps ≤ t.budget → result ≡ Err stop.OutOfSteps → t.steps ≡ t.budget
+run_spent s t result gives within is =
+    let stops : whole the s ≡ Err (OutOfSteps, t) = subst (λ (r : Result (Unit {0}) Stop). Yields r t (whole the s)) is gives (λ e. cc) in
+    let spent : t.budget ≤ t.steps = subst (λ (o : Outcome (Unit {0})). IsSpentStop o) stops (spent_whole s) in
+    omega arith
+
+pub run_read : (s t : Machine) (result : Result (Unit {0}) Stop) → Yields result t (whole the s) → (name : List ℕ) → result ≡ Err (stop.Unread name) → ⊥
+run_read s t result gives name is =
+    let stops : whole the s ≡ Err (Unread name, t) = subst (λ (r : Result (Unit {0}) Stop). Yields r t (whole the s)) is gives (λ e. cc) in
+    subst (λ (o : Outcome (Unit {0})). IsSpentStop o) stops (spent_whole s)

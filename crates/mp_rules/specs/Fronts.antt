@@ -2,6 +2,10 @@
 use Rattle.std.specs.Prelude.{ℕ, List, Option, Some, None, Bool, true, false, codes}
 use Rattle.mp_values.specs.Outcome.{Cause, give, halt}
 use Rattle.mp_values.specs.Refusals.{not_built, unexpected}
+use Rattle.mp_values.specs.declared.item.Item.{Item}
+use Rattle.mp_values.specs.declared.item.Item.TheVariants as item
+use Rattle.mp_values.specs.declared.turn.Pending.{Pending}
+use Rattle.mp_values.specs.declared.turn.Pending.TheVariants as pending
 use Rattle.mp_values.specs.declared.meaning.Meaning.{Meaning}
 use Rattle.mp_values.specs.declared.meaning.Meaning.TheVariants as meaning
 use Rattle.mp_values.specs.Words.{unary_of}
@@ -14,8 +18,28 @@ use Rattle.mp_acts.specs.State.{State, symbol_name, symbol_meaning}
 use Rattle.mp_rules.specs.Machine.{Machine, Rule}
 use Rattle.mp_rules.specs.declared.front.Front.{Front}
 use Rattle.mp_rules.specs.declared.front.Front.TheVariants as front
+use Rattle.mp_rules.specs.declared.front.Taken.{Taken}
+use Rattle.mp_rules.specs.declared.front.Taken.TheVariants as taken
 use Rattle.mp_rules.specs.declared.front.Raw.{Raw}
 use Rattle.mp_rules.specs.declared.front.Raw.TheVariants as raw
+
+-- what was taken off the text, as far as fronts and raw items mind: ends of lines and of files are passed over.
+-- (Nothing puts a capsule, a parameter or a turn into a text yet.)
+abbrev pub taken_item : Item → Taken
+taken_item (item.Symbol symbol) = taken.Symbol symbol
+taken_item (item.Number n) = taken.Number n
+taken_item (item.Text bytes) = taken.Text bytes
+taken_item (item.Bad cause) = taken.Bad cause
+taken_item (item.Capsule v) = taken.Passed
+taken_item (item.Param number) = taken.Passed
+taken_item (item.LineEnd place) = taken.Passed
+taken_item item.FileEnd = taken.Passed
+taken_item item.EndOfText = taken.Passed
+
+abbrev pub taken_as : Option Pending → Taken
+taken_as (Some (pending.Item x)) = taken_item x
+taken_as (Some (pending.Turn turn)) = taken.Passed
+taken_as None = taken.Nothing
 
 -- a symbol that means this, as a front; a word that is not built is refused as soon as it is one
 abbrev pub front_of_meaning : ℕ → Meaning → Rule Front

@@ -7,13 +7,9 @@ use Rattle.mp_report.specs.declared.error.SourceError.TheVariants as error
 use Rattle.mp_values.specs.Outcome.{◌>>=◌, give, halt, lift, change, Refused}
 use Rattle.mp_values.specs.Refusals.{bad_token}
 use Rattle.mp_values.specs.Words.{unary_of}
-use Rattle.mp_values.specs.declared.item.Item.{Item}
-use Rattle.mp_values.specs.declared.item.Item.TheVariants as item
 use Rattle.mp_values.specs.declared.meaning.Delimiters.{Delimiters}
 use Rattle.mp_values.specs.declared.meaning.Meaning.{Meaning}
 use Rattle.mp_values.specs.declared.meaning.Meaning.TheVariants as meaning
-use Rattle.mp_values.specs.declared.turn.Pending.{Pending}
-use Rattle.mp_values.specs.declared.turn.Pending.TheVariants as pending
 use Rattle.mp_values.specs.declared.value.Kind.{Kind}
 use Rattle.mp_values.specs.declared.value.Kind.TheVariants as kind
 use Rattle.mp_values.specs.declared.value.Value.{Value}
@@ -41,11 +37,13 @@ use Rattle.mp_acts.specs.Lines.{show, speak}
 use Rattle.mp_acts.specs.Groups.{begin_group, end_group, with_each, let_symbol, delimiters, interim}
 use Rattle.mp_acts.specs.declared.target.Target.TheVariants as target
 use Rattle.mp_rules.specs.Machine.{Machine, Rule}
-use Rattle.mp_rules.specs.Fronts.{symbol_front, secondary_in, tertiary_in, begins_primary, begins_factor}
+use Rattle.mp_rules.specs.Fronts.{symbol_front, taken_as, secondary_in, tertiary_in, begins_primary, begins_factor}
 use Rattle.mp_rules.specs.Steps.{take_first, enter, leave, see, see_string, hold, string_in_hand, acting, internal_number, unexpected, unexpected_raw}
 use Rattle.mp_rules.specs.Chains.{settle}
 use Rattle.mp_rules.specs.declared.front.Front.{Front}
 use Rattle.mp_rules.specs.declared.front.Front.TheVariants as front
+use Rattle.mp_rules.specs.declared.front.Taken.{Taken}
+use Rattle.mp_rules.specs.declared.front.Taken.TheVariants as taken
 use Rattle.mp_rules.specs.declared.front.Raw.{Raw}
 use Rattle.mp_rules.specs.declared.front.Raw.TheVariants as raw
 use Rattle.mp_rules.specs.declared.chain_side.ChainSide.{ChainSide as Side}
@@ -128,27 +126,18 @@ front_of_symbol symbol = do
   x ← symbol_front symbol
   change (see x)
 
--- ends of lines and of files are passed over. (Nothing puts a capsule, a parameter or a turn into a text yet.)
-abbrev pub front_of_item : Rules → Item → Rule (Unit {0})
-front_of_item rule (item.Symbol symbol) = front_of_symbol symbol
-front_of_item rule (item.Number n) = change (see (front.Number n))
-front_of_item rule (item.Text bytes) = change (see_string bytes)
-front_of_item rule (item.Bad cause) = halt (bad_token cause)
-front_of_item rule (item.Capsule v) = rule NextFront
-front_of_item rule (item.Param number) = rule NextFront
-front_of_item rule (item.LineEnd place) = rule NextFront
-front_of_item rule item.FileEnd = rule NextFront
-front_of_item rule item.EndOfText = rule NextFront
-
-abbrev pub front_of : Rules → Option Pending → Rule (Unit {0})
-front_of rule (Some (pending.Item x)) = front_of_item rule x
-front_of rule (Some (pending.Turn turn)) = rule NextFront
-front_of rule None = change (see front.EndOfText)
+abbrev pub front_of : Rules → Taken → Rule (Unit {0})
+front_of rule (taken.Symbol symbol) = front_of_symbol symbol
+front_of rule (taken.Number n) = change (see (front.Number n))
+front_of rule (taken.Text bytes) = change (see_string bytes)
+front_of rule (taken.Bad cause) = halt (bad_token cause)
+front_of rule taken.Passed = rule NextFront
+front_of rule taken.Nothing = change (see front.EndOfText)
 
 abbrev pub taken_front : Rules → Rule (Unit {0})
 taken_front rule = do
-  taken ← take_first
-  front_of rule taken
+  x ← take_first
+  front_of rule (taken_as x)
 
 abbrev pub held_or_taken : Rules → Option Front → Rule (Unit {0})
 held_or_taken rule (Some x) s = Ok (tt, record s { front = x; held = None })
@@ -158,27 +147,19 @@ abbrev pub next_front : Rules → Rule (Unit {0})
 next_front rule s = held_or_taken rule s.held s
 
 -- the next item as it stands
-abbrev pub raw_of_item : Rules → Item → Rule Raw
-raw_of_item rule (item.Symbol symbol) = give (raw.Symbol symbol)
-raw_of_item rule (item.Number n) = give raw.Number
-raw_of_item rule (item.Text bytes) = give raw.Text
-raw_of_item rule (item.Bad cause) = halt (bad_token cause)
-raw_of_item rule (item.Capsule v) = rule NextRaw
-raw_of_item rule (item.Param number) = rule NextRaw
-raw_of_item rule (item.LineEnd place) = rule NextRaw
-raw_of_item rule item.FileEnd = rule NextRaw
-raw_of_item rule item.EndOfText = rule NextRaw
-
-abbrev pub raw_of : Rules → Option Pending → Rule Raw
-raw_of rule (Some (pending.Item x)) = raw_of_item rule x
-raw_of rule (Some (pending.Turn turn)) = rule NextRaw
-raw_of rule None = give raw.EndOfText
+abbrev pub raw_of : Rules → Taken → Rule Raw
+raw_of rule (taken.Symbol symbol) = give (raw.Symbol symbol)
+raw_of rule (taken.Number n) = give raw.Number
+raw_of rule (taken.Text bytes) = give raw.Text
+raw_of rule (taken.Bad cause) = halt (bad_token cause)
+raw_of rule taken.Passed = rule NextRaw
+raw_of rule taken.Nothing = give raw.EndOfText
 
 abbrev pub next_raw : Rules → Rule Raw
 next_raw rule = do
   used ← change (see front.EndOfText)
-  taken ← take_first
-  raw_of rule taken
+  x ← take_first
+  raw_of rule (taken_as x)
 
 abbrev pub symbol_in : Raw → Rule ℕ
 symbol_in (raw.Symbol symbol) = give symbol

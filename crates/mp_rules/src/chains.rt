@@ -1,6 +1,6 @@
 //! Chains of equations and assignments.
 
-ghost use Rattle.std.specs.Prelude.{◌≡◌, ◌≤◌, ◌++◌, ◌∷◌, reverse, OnOk};
+ghost use Rattle.std.specs.Prelude.{◌≡◌, ◌≤◌, ◌++◌, ◌∷◌, [], reverse, OnOk};
 ghost use Rattle.mp_acts.specs.Reach.{reach};
 ghost use Rattle.mp_rules.specs.Machine.{unknowns};
 ghost use Rattle.mp_rules.specs.Rules.{Chain, ChainSide as ASide};

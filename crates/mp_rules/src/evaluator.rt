@@ -1,6 +1,6 @@
 //! The evaluator and its single steps.
 
-ghost use Rattle.std.specs.Prelude.{◌≡◌, ◌≤◌, [], None, Err};
+ghost use Rattle.std.specs.Prelude.{◌≡◌, ◌≢◌, ◌≤◌, List, ℕ, Err, map};
 ghost use Rattle.mp_values.specs.Outcome.{IsStop, Yields};
 ghost use Rattle.mp_rules.specs.Fronts.{stood, raw_stood, refused_front, refused_raw};
 ghost use Rattle.mp_rules.specs.Promises.{Acts, Took};
@@ -88,13 +88,34 @@ impl Evaluator {
         }
     }
 
-    /// Reads the text to its end.
-    #[tactic(auto)]
+    /// Reads the text to its end. Where it is out of steps, the budget is used up; no file is asked for.
+    #[tactic(auto, using(crate::proofs::Spent::run_spent, crate::proofs::Spent::run_read))]
     pub fn run(&mut self) -> Result<(), Stop>
         ensures meaning { Yields result self.new (whole the self.old) }
         ensures kept { self.new.budget ≡ self.old.budget }
         ensures files { self.new.sources ≡ self.old.sources }
+        ensures asked { self.new.asked ≡ self.old.asked }
+        ensures read { (name : List ℕ) → result ≢ Err (Stop.Unread name) }
         ensures spent { result ≡ Err Stop.OutOfSteps → self.new.steps ≡ self.new.budget }
+    {
+        self.keeps_count();
+        let result = self.read_whole();
+        self.keeps_count();
+        result
+    }
+
+    /// What an evaluator keeps, for a proof. It does nothing.
+    fn keeps_count(&self)
+        ensures asked { self.now.asked ≡ map (λ k. k.name) self.now.sources }
+        ensures within { self.now.steps ≤ self.now.budget }
+    {
+        let _ = &self.steps;
+    }
+
+    fn read_whole(&mut self) -> Result<(), Stop>
+        ensures meaning { Yields result self.new (whole the self.old) }
+        ensures kept { self.new.budget ≡ self.old.budget }
+        ensures files { self.new.sources ≡ self.old.sources }
     {
         self.next_front()?;
         self.statements()

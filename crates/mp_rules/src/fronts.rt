@@ -8,8 +8,8 @@ ghost use Rattle.mp_rules.specs.Promises.{Means, Uses};
 ghost use Rattle.mp_rules.specs.Meaning.{the};
 
 use crate::evaluator::Evaluator;
-use crate::front::{Front, Raw};
-use mp_values::{Item, Meaning, Pending, Stop};
+use crate::front::{Front, Raw, Taken};
+use mp_values::{Meaning, Stop};
 
 impl Evaluator {
     /// The next front comes to hand: line ends and file ends are passed over.
@@ -22,27 +22,20 @@ impl Evaluator {
             return Ok(());
         }
         'items: loop {
-            match self.take()? {
-                Some(Pending::Item(Item::Symbol(symbol))) => {
-                    let front = self.symbol_front(symbol)?;
-                    self.see(front);
+            let taken = Taken::of(self.take()?);
+            let front = match &taken {
+                Taken::Symbol(symbol) => self.symbol_front(*symbol)?,
+                Taken::Number(value) => Front::Number(*value),
+                Taken::Text(bytes) => {
+                    self.see_string(bytes.share()?);
                     return Ok(());
                 }
-                Some(Pending::Item(Item::Number(value))) => {
-                    self.see(Front::Number(value));
-                    return Ok(());
-                }
-                Some(Pending::Item(Item::Text(bytes))) => {
-                    self.see_string(bytes);
-                    return Ok(());
-                }
-                Some(Pending::Item(Item::Bad(cause))) => return Err(Stop::from(cause)),
-                Some(_) => {}
-                None => {
-                    self.see(Front::EndOfText);
-                    return Ok(());
-                }
-            }
+                Taken::Bad(cause) => return Err(Stop::from(*cause)),
+                Taken::Passed => continue,
+                Taken::Nothing => Front::EndOfText,
+            };
+            self.see(front);
+            return Ok(());
         }
     }
 
@@ -67,13 +60,13 @@ impl Evaluator {
     {
         'items: loop {
             self.see(Front::EndOfText);
-            match self.take()? {
-                Some(Pending::Item(Item::Symbol(symbol))) => return Ok(Raw::Symbol(symbol)),
-                Some(Pending::Item(Item::Number(_))) => return Ok(Raw::Number),
-                Some(Pending::Item(Item::Text(_))) => return Ok(Raw::Text),
-                Some(Pending::Item(Item::Bad(cause))) => return Err(Stop::from(cause)),
-                Some(_) => {}
-                None => return Ok(Raw::EndOfText),
+            match Taken::of(self.take()?) {
+                Taken::Symbol(symbol) => return Ok(Raw::Symbol(symbol)),
+                Taken::Number(_) => return Ok(Raw::Number),
+                Taken::Text(_) => return Ok(Raw::Text),
+                Taken::Bad(cause) => return Err(Stop::from(cause)),
+                Taken::Passed => {}
+                Taken::Nothing => return Ok(Raw::EndOfText),
             }
         }
     }

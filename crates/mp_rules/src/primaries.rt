@@ -183,8 +183,8 @@ impl Evaluator {
     /// What a primary is made of that begins with a word.
     #[cycle(eval)]
     fn word_primary(&mut self, symbol: u32, word: Word) -> Result<Value, Stop>
-        requires { front.Word symbol word ≡ self.old.front }
-        ensures { ActsValue (rules.primary_by the (front.Word symbol word)) result self.old self.new }
+        requires { self.old.front ≡ Front.Word symbol word }
+        ensures { ActsValue (rules.primary_by the (Front.Word symbol word)) result self.old self.new }
     {
         match word {
             Word::Begingroup => self.group(),

@@ -1,5 +1,5 @@
 -- On outcomes: what the parts of the top call did makes the outcome of the whole.
-use Rattle.std.proofs.Common.{◌≡◌, ◌≤◌, ◌<◌, arith, ℕ, List, sym, ◌∙◌, ap, subst, min, length}
+use Rattle.std.proofs.Common.{◌≡◌, ◌≢◌, ◌≤◌, ◌<◌, ◌++◌, arith, ℕ, List, [], sym, ◌∙◌, ap, subst, min, length}
 use Rattle.mp_files.specs.declared.outside.Kept.{Kept}
 use Rattle.mpost.specs.declared.deliver.Delivered.{Delivered}
 use Rattle.mpost.specs.declared.deliver.Delivered.TheVariants as delivered
@@ -12,8 +12,12 @@ use Rattle.mpost.specs.declared.top.End.TheVariants.{Usage, ReadFault, NoMemory}
 use Rattle.mpost.specs.declared.top.Report.{Report}
 use Rattle.mpost.specs.Delivery.{DeliverGives}
 use Rattle.mp_eval.specs.Gives.{Follows, ReadCause}
-use Rattle.mpost.specs.Headline.{Outside, ends, reported, own_end, line_of, end_after, end_said, IsReadFault, Says, KeepsNothing, Ran, RunOutcome, UsageOutcome, ran, starved}
-use Rattle.mp_eval.specs.Run.{Course, RunEnding, Ended, Unread, run_of}
+use Rattle.mpost.specs.Headline.{Outside, ends, reported, own_end, line_of, end_after, end_said, IsReadFault, Says, KeepsNothing, OneLine, NoneRose, AllIsWritten, Ran, RunOutcome, UsageOutcome, course_of, ran, starved}
+use Rattle.mp_values.specs.Outcome.{Refused, OutOfSteps, Unread}
+use Rattle.mp_files.specs.Outside.{Gained}
+use Rattle.mp_eval.specs.declared.outcome.Figure.{Figure}
+use Rattle.mpost.specs.CommandWords.{CommandLine}
+use Rattle.mp_eval.specs.Run.{Course, Ending, Finished, Stopped, run_of}
 
 keeps_nothing : (named : End) (report : Report) (before now : SinkSeen) → Says named report before now → KeepsNothing report
 keeps_nothing named report before now says = record {
@@ -25,10 +29,10 @@ keeps_nothing named report before now says = record {
 }
 
 -- memory ran out, and its line was all that was written
-pub starved_by : (name : List ℕ) (allowed : ℕ) (report : Report) (before now : Outside)
+pub starved_by : (line : CommandLine) (report : Report) (before now : Outside)
     → before.files.faults ≤ now.files.faults → now.shelf ≡ before.shelf
-    → Says NoMemory report before.out now.out → RunOutcome name allowed report before now
-starved_by name allowed report before now later shelf says =
+    → Says NoMemory report before.out now.out → RunOutcome line report before now
+starved_by line report before now later shelf says =
     starved says.0 later (keeps_nothing NoMemory report before.out now.out says) (record { end = ap (λ (r : Report). r.end) says.1; out = says.2; shelf = shelf })
 
 -- a word was refused, and its line was all that was written
@@ -39,33 +43,33 @@ refused_by word report before now files shelf says =
     (files, keeps_nothing (Usage word) report before.out now.out says, (says.0, record { end = ap (λ (r : Report). r.end) says.1; out = says.2; shelf = shelf }))
 
 -- a report of a run, by what the run and the writing gave
-pub record Reports (run : Run) (allowed : ℕ) (at : Delivered) (report : Report) : Type 0 where
+pub record Reports (run : Run) (line : CommandLine) (at : Delivered) (report : Report) : Type 0 where
   pub sources : report.sources ≡ run.sources
   pub main : report.main ≡ min 1 (length report.sources)
   pub steps : report.steps ≡ run.steps
-  pub seed : report.seed ≡ 0
-  pub budget : report.budget ≡ allowed
+  pub seed : report.seed ≡ line.seed
+  pub budget : report.budget ≡ line.budget
   pub end : report.end ≡ end_after at (reported run.end)
 
 -- a run that follows its course, as it was reported and written
-ran_as : (course : Course) (allowed : ℕ) (run : Run) (at : Delivered) (report : Report) (before now : Outside)
-    → Follows run course before.files now.files → Reports run allowed at report
+ran_as : (course : Course) (line : CommandLine) (run : Run) (at : Delivered) (report : Report) (before now : Outside)
+    → Follows run course before.files now.files → Reports run line at report
     → DeliverGives run.lines run.figures (line_of run.sources (reported run.end)) (ends before) (ends now) at
-    → Ran course allowed at report before now
-ran_as course allowed run at report before now f r written = record {
+    → Ran course line at report before now
+ran_as course line run at report before now f r written = record {
   end = r.end ∙ ap (λ e. end_after at (reported e)) f.end;
   follows = record { names = rw r.sources f.names; main = r.main; steps = r.steps ∙ f.steps; seed = r.seed; budget = r.budget; asked = f.asked; cause = f.cause };
   written = rw (r.sources, ← f.lines, ← f.figures, ← f.end) written;
 }
 
-pub ran_by : (called name : List ℕ) (allowed : ℕ) (run : Run) (at : Delivered) (report : Report) (before now : Outside)
-    → called ≡ name → Follows run (run_of run.sources called allowed) before.files now.files → Reports run allowed at report
+pub ran_by : (called : List ℕ) (line : CommandLine) (run : Run) (at : Delivered) (report : Report) (before now : Outside)
+    → called ≡ line.name → Follows run (run_of run.sources [] called line.budget) before.files now.files → Reports run line at report
     → DeliverGives run.lines run.figures (line_of run.sources (reported run.end)) (ends before) (ends now) at
-    → RunOutcome name allowed report before now
-ran_by called name allowed run at report before now is f r written =
-    let P : List Kept → Type 0 = λ s. Ran (run_of s called allowed) allowed at report before now in
-    let Q : List ℕ → Type 0 = λ n. RunOutcome n allowed report before now in
-    subst Q is (ran at (subst P (sym r.sources) (ran_as (run_of run.sources called allowed) allowed run at report before now f r written)))
+    → RunOutcome line report before now
+ran_by called line run at report before now is f r written =
+    let P : List Kept → Type 0 = λ s. Ran (run_of s [] line.name line.budget) line at report before now in
+    let Q : List ℕ → Type 0 = λ n. Follows run (run_of run.sources [] n line.budget) before.files now.files in
+    ran at (subst P (sym r.sources) (ran_as (run_of run.sources [] line.name line.budget) line run at report before now (subst Q is f) r written))
 
 after_unread : (at : Delivered) → IsReadFault (end_after at ReadFault)
 after_unread delivered.All = tt
@@ -77,16 +81,35 @@ said_starved : (at : Written) → IsReadFault (end_said at NoMemory)
 said_starved written.Written = tt
 said_starved written.Failed = tt
 
-unread_alone : (ending : RunEnding) (at : Delivered) (before now : ℕ) → ReadCause ending before now → before < now → IsReadFault (end_after at (own_end ending))
-unread_alone (Ended ending) at before now cause more = absurd (omega (arith, cause))
-unread_alone (Unread name) at before now cause more = after_unread at
+unread_alone : (ending : Ending) (at : Delivered) (before now : ℕ) → ReadCause ending before now → before < now → IsReadFault (end_after at (own_end ending))
+unread_alone Finished at before now cause more = absurd (omega (arith, cause))
+unread_alone (Stopped (Unread name) place) at before now cause more = after_unread at
+unread_alone (Stopped (Refused error) place) at before now cause more = absurd (omega (arith, cause))
+unread_alone (Stopped OutOfSteps place) at before now cause more = absurd (omega (arith, cause))
 
 -- where the count of reads is greater than before, the end says so
-pub reads_counted_by : (name : List ℕ) (allowed : ℕ) (report : Report) (before now : Outside)
-    → RunOutcome name allowed report before now → before.files.faults < now.files.faults → IsReadFault report.end
-reads_counted_by name allowed report before now (ran at r) more =
+pub reads_counted_by : (line : CommandLine) (report : Report) (before now : Outside)
+    → RunOutcome line report before now → before.files.faults < now.files.faults → IsReadFault report.end
+reads_counted_by line report before now (ran at r) more =
     let P : End → Type 0 = λ e. IsReadFault e in
-    subst P (sym r.end) (unread_alone (run_of report.sources name allowed).ending at before.files.faults now.files.faults r.follows.cause more)
-reads_counted_by name allowed report before now (starved at later nothing line) more =
+    subst P (sym r.end) (unread_alone (course_of line report).ending at before.files.faults now.files.faults r.follows.cause more)
+reads_counted_by line report before now (starved at later nothing said) more =
     let P : End → Type 0 = λ e. IsReadFault e in
-    subst P (sym line.end) (said_starved at)
+    subst P (sym said.end) (said_starved at)
+
+-- WHERE NOTHING FAILED
+
+written_all : (lines : List ℕ) (figures : List Figure) (line : List ℕ) (before now : Outside) (at : Delivered) → NoneRose before now
+    → DeliverGives lines figures line (ends before) (ends now) at → Gained before.out.bytes now.out.bytes (lines ++ line)
+written_all lines figures line before now delivered.All none written = written.out
+written_all lines figures line before now delivered.LinesFailed none written = absurd (none.out written.counted)
+written_all lines figures line before now delivered.PutFailed none written = absurd (none.shelf written.counted)
+written_all lines figures line before now delivered.LineFailed none written = absurd (none.out written.counted)
+
+starved_not : (at : Written) (report : Report) (before now : Outside) → NoneRose before now → report.end ≢ NoMemory → OneLine NoMemory at report before now → ⊥
+starved_not written.Written report before now none found said = found said.end
+starved_not written.Failed report before now none found said = none.out said.out.0
+
+pub all_is_written : AllIsWritten
+all_is_written line report before now (ran at r) none found = written_all _ _ _ before now at none r.written
+all_is_written line report before now (starved at later nothing said) none found = absurd (starved_not at report before now none found said)

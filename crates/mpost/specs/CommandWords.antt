@@ -1,16 +1,23 @@
 -- What the words of a command line say.
-use Rattle.std.specs.Prelude.{ℕ, Bool, false, not, ◌&&◌, ◌||◌, ◌==◌, nat_le, List, [], ◌∷◌, ◌++◌, fold, codes, if◌then◌else◌}
+use Rattle.std.specs.Prelude.{ℕ, Bool, false, not, ◌&&◌, ◌||◌, ◌==◌, List, [], ◌∷◌, ◌++◌, fold, codes, if◌then◌else◌}
 use Rattle.std.specs.List.{list_all}
 use Rattle.std.specs.Str.{bytes_eq}
+use Rattle.mp_eval.specs.Files.{is_visible}
+use Rattle.mpost.specs.declared.words.TheConstants.{DEFAULT_BUDGET}
 
--- refused at a word, counted from 1, or the name of the main file
+-- what a command line asks for
+pub record CommandLine : Type 0 where
+  -- the name of the main file
+  pub name : List ℕ
+  -- the steps that its run may take
+  pub budget : ℕ
+  -- the seed of the random words
+  pub seed : ℕ
+
+-- refused at a word, counted from 1, or a command line
 pub data Words : Type 0 where
   Refused : ℕ → Words
-  Accepted : List ℕ → Words
-
--- the bytes that a file's name may have: 33 to 126
-abbrev pub is_visible : ℕ → Bool
-is_visible c = nat_le 33 c && nat_le c 126
+  Accepted : CommandLine → Words
 
 -- a word names a file: it is not empty, has visible bytes alone, and does not begin with `-`
 abbrev pub is_file : List ℕ → Bool
@@ -29,8 +36,12 @@ is_pointed file = fold pointed_after false file
 abbrev pub name_of_file : List ℕ → List ℕ
 name_of_file file = if is_pointed file then file else file ++ codes ".mp"
 
+-- the run of a file for which the words say no more
+abbrev pub run_of_file : List ℕ → CommandLine
+run_of_file file = record { name = name_of_file file; budget = DEFAULT_BUDGET; seed = 0 }
+
 abbrev pub no_more : List ℕ → List (List ℕ) → Words
-no_more file [] = Accepted (name_of_file file)
+no_more file [] = Accepted (run_of_file file)
 no_more file (word ∷ words) = Refused 3
 
 abbrev pub file_words : List (List ℕ) → Words

@@ -1,16 +1,16 @@
 -- The headline: what comes of every command line, by the meaning of the sources that were read.
-use Rattle.std.specs.Prelude.{ℕ, zero, suc, ◌≡◌, ◌≤◌, ◌<◌, ◌⊎◌, List, [], ◌++◌, Option, Some, None, slice_get, codes, decimal, map, min, length}
+use Rattle.std.specs.Prelude.{ℕ, zero, suc, ◌≡◌, ◌≢◌, ◌≤◌, ◌<◌, ◌⊎◌, List, [], ◌++◌, Option, Some, None, slice_get, codes, decimal, map, min, length}
 use Rattle.mp_files.specs.declared.outside.Kept.{Kept}
 use Rattle.mp_files.specs.declared.outside.Written.{Written}
 use Rattle.mp_files.specs.declared.outside.Written.TheVariants as written
 use Rattle.mp_files.specs.Counts.{Rose}
-use Rattle.mp_files.specs.Outside.{Asked, WriteGives}
+use Rattle.mp_files.specs.Outside.{Asked, Gained, WriteGives}
 use Rattle.mp_files.specs.Seen.{FilesSeen, ShelfSeen, SinkSeen}
 use Rattle.mp_report.specs.Line.{error_line}
-use Rattle.mpost.specs.CommandWords.{Words, Refused, Accepted}
+use Rattle.mpost.specs.CommandWords.{CommandLine, Words, Refused, Accepted}
 use Rattle.mpost.specs.Delivery.{Ends, DeliverGives}
 use Rattle.mp_eval.specs.Gives.{run_end_of, ReadCause, NamesAsked}
-use Rattle.mp_eval.specs.Run.{Course, RunEnding, run_of}
+use Rattle.mp_eval.specs.Run.{Course, Ending, run_of}
 use Rattle.mpost.specs.declared.deliver.Delivered.{Delivered}
 use Rattle.mpost.specs.declared.deliver.Delivered.TheVariants as delivered
 use Rattle.mp_eval.specs.declared.outcome.RunEnd.{RunEnd}
@@ -37,7 +37,7 @@ reported runs.ReadFault = ReadFault
 reported runs.NoMemory = NoMemory
 
 -- the run's own end
-abbrev pub own_end : RunEnding → End
+abbrev pub own_end : Ending → End
 own_end ending = reported (run_end_of ending)
 
 -- the name of a source by its number, which counts from 1; 0 is none, and is shown as the program's name
@@ -80,12 +80,12 @@ end_said written.Written end = end
 end_said written.Failed end = WriteFault
 
 -- the report and what was asked for go by the course
-pub record FollowsCourse (course : Course) (allowed : ℕ) (report : Report) (before now : FilesSeen) : Type 0 where
+pub record FollowsCourse (course : Course) (line : CommandLine) (report : Report) (before now : FilesSeen) : Type 0 where
   pub names : NamesAsked course.ending (map (λ k. k.name) report.sources) course.asked
   pub main : report.main ≡ min 1 (length report.sources)
   pub steps : report.steps ≡ course.steps
-  pub seed : report.seed ≡ 0
-  pub budget : report.budget ≡ allowed
+  pub seed : report.seed ≡ line.seed
+  pub budget : report.budget ≡ line.budget
   pub asked : Asked before.told now.told course.asked
   pub cause : ReadCause course.ending before.faults now.faults
 
@@ -110,31 +110,31 @@ Says named report before now = (at : Written)
     × WriteGives before now (line_of [] named) at
 
 -- what the course makes was written, all or up to where it broke off
-pub record Ran (course : Course) (allowed : ℕ) (at : Delivered) (report : Report) (before now : Outside) : Type 0 where
+pub record Ran (course : Course) (line : CommandLine) (at : Delivered) (report : Report) (before now : Outside) : Type 0 where
   pub end : report.end ≡ end_after at (own_end course.ending)
-  pub follows : FollowsCourse course allowed report before.files now.files
+  pub follows : FollowsCourse course line report before.files now.files
   pub written : DeliverGives course.lines course.figures (line_of report.sources (own_end course.ending)) (ends before) (ends now) at
 
+-- the course of the sources that the report keeps; nothing is loaded before the main file
+abbrev pub course_of : CommandLine → Report → Course
+course_of line report = run_of report.sources [] line.name line.budget
+
 -- what comes of a run, by the course of the sources that it read
-pub data RunOutcome (name : List ℕ) (allowed : ℕ) (report : Report) (before now : Outside) : Type 0 where
+pub data RunOutcome (line : CommandLine) (report : Report) (before now : Outside) : Type 0 where
   -- the run goes by its course
-  ran : (at : Delivered) → Ran (run_of report.sources name allowed) allowed at report before now → RunOutcome name allowed report before now
+  ran : (at : Delivered) → Ran (course_of line report) line at report before now → RunOutcome line report before now
   -- memory ran out
-  starved : (at : Written) → before.files.faults ≤ now.files.faults → KeepsNothing report → OneLine NoMemory at report before now → RunOutcome name allowed report before now
+  starved : (at : Written) → before.files.faults ≤ now.files.faults → KeepsNothing report → OneLine NoMemory at report before now → RunOutcome line report before now
 
 -- a refused command line: nothing is read, and one line is written
 abbrev pub UsageOutcome : ℕ → Report → Outside → Outside → Type 0
 UsageOutcome word report before now =
     (now.files ≡ before.files) × KeepsNothing report × ((at : Written) × OneLine (Usage word) at report before now)
 
--- the steps that a run may take
-abbrev pub budget : ℕ
-budget = 10000000
-
 -- the headline: by the words, and by the meaning of the sources that were read
 abbrev pub Outcome : Words → Report → Outside → Outside → Type 0
 Outcome (Refused word) report before now = UsageOutcome word report before now
-Outcome (Accepted name) report before now = RunOutcome name budget report before now
+Outcome (Accepted line) report before now = RunOutcome line report before now
 
 -- none of the counts rose
 pub record NoneRose (before now : Outside) : Type 0 where
@@ -151,7 +151,7 @@ IsOwn own end = end ≡ own
 
 abbrev pub IsOwnEnd : Words → Report → Type 0
 IsOwnEnd (Refused word) report = report.end ≡ Usage word
-IsOwnEnd (Accepted name) report = IsOwn (own_end (run_of report.sources name budget).ending) report.end
+IsOwnEnd (Accepted line) report = IsOwn (own_end (course_of line report).ending) report.end
 
 -- one of the two counts of writes is greater than before
 abbrev pub WritesCounted : Outside → Outside → Type 0
@@ -163,3 +163,8 @@ IsReadFault ReadFault = Unit {0}
 IsReadFault WriteFault = Unit {0}
 IsReadFault NoMemory = Unit {0}
 IsReadFault end = ⊥
+
+-- where no count rose and memory was found, the sink gained the lines of the course and the line of its end
+abbrev pub AllIsWritten : Type 0
+AllIsWritten = (line : CommandLine) (report : Report) (before now : Outside) → RunOutcome line report before now → NoneRose before now → report.end ≢ NoMemory
+    → Gained before.out.bytes now.out.bytes ((course_of line report).lines ++ line_of report.sources (own_end (course_of line report).ending))

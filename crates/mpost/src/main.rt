@@ -6,6 +6,7 @@
 #![tactic(auto)]
 
 mod deliver;
+mod law;
 #[cfg(test)]
 mod tests;
 mod top;

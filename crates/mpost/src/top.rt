@@ -4,7 +4,7 @@ ghost use Rattle.std.specs.Prelude.{◌≡◌, ◌≢◌, ◌≤◌, ◌<◌, �
 ghost use Rattle.std.specs.Bool.{MatchBool};
 ghost use Rattle.std.specs.String.{string_bytes};
 ghost use Rattle.mp_files.specs.Counts.{Rose};
-ghost use Rattle.mpost.specs.CommandWords.{words_of, name_of_file};
+ghost use Rattle.mpost.specs.CommandWords.{words_of, run_of_file};
 ghost use Rattle.mp_eval.specs.Gives.{AreGiven};
 ghost use Rattle.mpost.specs.Headline as headline;
 ghost use Rattle.mpost.specs.Headline.{Outside, Outcome, RunOutcome, NoneRose, IsOwnEnd, WritesCounted, IsReadFault, Says, line_of, name_of_source};
@@ -52,9 +52,6 @@ pub struct Report {
     pub steps: u64,
     pub end: End,
 }
-
-/// The steps that a run may take.
-const BUDGET: u64 = 10_000_000;
 
 const MEMORY_LINE: &[u8] = b"mpost: out of memory\n";
 
@@ -200,7 +197,7 @@ fn empty_report(alloc: Global, end: End) -> Report
 }
 
 fn report_of(sources: Sources, steps: u64, end: End) -> Report
-    ensures { result ≡ record { status = headline.status_of end; sources = sources; main = min 1 (length sources); seed = 0; budget = headline.budget; steps = steps; end = end } }
+    ensures { result ≡ record { status = headline.status_of end; sources = sources; main = min 1 (length sources); seed = 0; budget = DEFAULT_BUDGET; steps = steps; end = end } }
 {
     let status = status_of(&end);
     let main = if sources.as_slice().is_empty() { 0 } else { 1 };
@@ -209,7 +206,7 @@ fn report_of(sources: Sources, steps: u64, end: End) -> Report
         sources,
         main,
         seed: 0,
-        budget: BUDGET,
+        budget: DEFAULT_BUDGET,
         steps,
         end,
     }
@@ -235,6 +232,9 @@ pub fn mpost_main<F: Files, S: Shelf, O: Sink>(
     ensures main { result.main ≡ min 1 (length result.sources) }
     ensures status { result.status ≡ headline.status_of result.end }
     ensures within { result.steps ≤ result.budget }
+
+    // where the steps ran out, all that were budgeted were taken
+    ensures spent { result.end ≡ End.OutOfSteps → result.steps ≡ result.budget }
 
     // where no count of faults rose, the end is the run's own, want of memory, or the refusal of a word
     ensures complete { let before : Outside = record { files = F.seen files.old; shelf = S.seen shelf.old; out = O.seen out.old } in
@@ -286,9 +286,10 @@ fn run_and_write<F: Files, S: Shelf, O: Sink>(
     ensures main { result.main ≡ min 1 (length result.sources) }
     ensures status { result.status ≡ headline.status_of result.end }
     ensures within { result.steps ≤ result.budget }
+    ensures spent { result.end ≡ End.OutOfSteps → result.steps ≡ result.budget }
     ensures headline { let before : Outside = record { files = F.seen files.old; shelf = S.seen shelf.old; out = O.seen out.old } in
         let now : Outside = record { files = F.seen files.new; shelf = S.seen shelf.new; out = O.seen out.new } in
-        RunOutcome (name_of_file file.now) headline.budget result before now }
+        RunOutcome (run_of_file file.now) result before now }
 {
     let Ok(name) = name_of_file(alloc, file) else {
         return say(alloc, MEMORY_LINE, End::NoMemory, out);
@@ -301,7 +302,7 @@ fn run_and_write<F: Files, S: Shelf, O: Sink>(
         unknowns: _,
         equations: _,
         end,
-    } = run(alloc, name.as_slice(), BUDGET, files);
+    } = run(alloc, &[], name.as_slice(), DEFAULT_BUDGET, 0, files);
     if is_starved(&end) {
         return say(alloc, MEMORY_LINE, End::NoMemory, out);
     }

@@ -3,11 +3,15 @@
 ghost use Rattle.std.specs.Prelude.{◌≡◌, IfOk, map};
 ghost use Rattle.std.specs.List.{list_all};
 ghost use Rattle.std.specs.String.{string_bytes};
+ghost use Rattle.mp_eval.specs.Files.{is_visible};
 ghost use Rattle.mpost.specs.CommandWords as words;
 ghost use Rattle.mpost.specs.ReadWords.{ReadAs, ReadFileAs};
 
 use mp_scaled::{Bytes, NoMemory};
 use std::alloc::Global;
+
+/// The steps that a run may take where the words do not say it.
+pub const DEFAULT_BUDGET: u64 = 10_000_000;
 
 /// What a command line says.
 pub enum Command<'a> {
@@ -57,15 +61,9 @@ fn is_file(word: &[u8]) -> bool
 }
 
 fn are_visible(word: &[u8]) -> bool
-    ensures { result ≡ list_all words.is_visible word.now }
+    ensures { result ≡ list_all is_visible word.now }
 {
-    word.iter().all(|c| is_visible(*c))
-}
-
-fn is_visible(c: u8) -> bool
-    ensures { result ≡ words.is_visible c }
-{
-    33 <= c && c <= 126
+    word.iter().all(|c| 33 <= *c && *c <= 126)
 }
 
 fn is_pointed(file: &[u8]) -> bool

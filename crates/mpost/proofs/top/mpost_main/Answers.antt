@@ -9,4 +9,4 @@ pub returns-in-Accepted-clause-headline : goal.returns-in-Accepted-clause-headli
 returns-in-Accepted-clause-headline g c = rw c.in-Accepted.ensures c.run_and_write.ensures.headline
 
 pub returns-in-Accepted-clause-reads_counted : goal.returns-in-Accepted-clause-reads_counted
-returns-in-Accepted-clause-reads_counted g c = reads_counted_by _ _ _ _ _ c.run_and_write.ensures.headline
+returns-in-Accepted-clause-reads_counted g c = reads_counted_by _ _ _ _ c.run_and_write.ensures.headline

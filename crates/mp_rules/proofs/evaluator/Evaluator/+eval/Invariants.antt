@@ -80,13 +80,13 @@ abbrev pub decreases-variable : goal.decreases-variable
 decreases-variable l = 2 * (64 * coming l.self.now + 2) + 1
 
 abbrev pub decreases-parenthesis : goal.decreases-parenthesis
-decreases-parenthesis l = 2 * (64 * coming l.self.now + 9) + 1
+decreases-parenthesis l = 2 * (64 * coming l.self.now + 9) + 2
 
 abbrev pub decreases-str_primary : goal.decreases-str_primary
 decreases-str_primary l = 2 * (64 * coming l.self.now + 1) + 1
 
 abbrev pub decreases-applied : goal.decreases-applied
-decreases-applied l = 2 * (64 * coming l.self.now + 4) + 1
+decreases-applied l = 2 * (64 * coming l.self.now + 4) + 2
 
 abbrev pub decreases-word_primary : goal.decreases-word_primary
 decreases-word_primary l = 2 * (64 * left l.self.now + 2) + 1
@@ -95,16 +95,16 @@ abbrev pub decreases-leading_inside : goal.decreases-leading_inside
 decreases-leading_inside l = 2 * (64 * left l.self.now + 3) + 1
 
 abbrev pub decreases-bracketed : goal.decreases-bracketed
-decreases-bracketed l = 2 * (64 * coming l.self.now + 9) + 1
+decreases-bracketed l = 2 * (64 * coming l.self.now + 9) + 2
 
 abbrev pub decreases-side_from : goal.decreases-side_from
 decreases-side_from l = 2 * (64 * left l.self.now + 8) + 1
 
 abbrev pub decreases-interim_value : goal.decreases-interim_value
-decreases-interim_value l = 2 * (64 * coming l.self.now + 9) + 1
+decreases-interim_value l = 2 * (64 * coming l.self.now + 9) + 2
 
 abbrev pub decreases-spoken : goal.decreases-spoken
-decreases-spoken l = 2 * (64 * coming l.self.now + 9) + 1
+decreases-spoken l = 2 * (64 * coming l.self.now + 9) + 2
 
 abbrev pub invariant-secondary_rest-primaries : goal.invariant-secondary_rest-primaries
 invariant-secondary_rest-primaries l = record {
