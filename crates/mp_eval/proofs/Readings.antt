@@ -1,6 +1,7 @@
 -- On what a text comes to: a short one is read, and a long one is not built.
 use Rattle.std.proofs.Common.{◌≡◌, ◌≤◌, ◌<◌, ◌∷◌, ◌∙◌, ℕ, List, [], length, Bool, true, false, refl, sym, ap, subst, arith, Ok, Err}
-use Rattle.std.specs.Prelude.{nat_le, codes}
+use Rattle.std.specs.Prelude.{nat_le, codes, Result, IfOk}
+use Rattle.mp_scaled.specs.declared.bytes.NoMemory.{NoMemory}
 use Rattle.std.proofs.lemmas.Bool.Decides.{nat_tests}
 use Rattle.mp_values.specs.Outcome.{◌>>=◌, change}
 use Rattle.mp_values.specs.Refusals.{not_built}
@@ -8,13 +9,18 @@ use Rattle.mp_files.specs.declared.outside.Contents.TheVariants.{Here}
 use Rattle.mp_report.specs.declared.error.SourceError.TheVariants as error
 use Rattle.mp_rules.specs.Machine.{Machine, Outcome}
 use Rattle.mp_rules.specs.Meaning.{the}
-use Rattle.mp_rules.specs.Starts.{whole}
+use Rattle.mp_rules.specs.Starts.{start_on, whole}
+use Rattle.mp_files.specs.declared.outside.Kept.{Kept}
+use Rattle.mp_report.specs.declared.place.Place.{Place}
+use Rattle.mp_values.specs.declared.turn.Pending.{Pending}
+use Rattle.mp_acts.specs.Start.{first_state}
+use Rattle.mp_acts.specs.State.{State}
 use Rattle.mp_eval.specs.declared.outcome.Run.{Run}
 use Rattle.mp_eval.specs.declared.outcome.RunEnd.TheVariants as ends
 use Rattle.mp_eval.specs.declared.running.TheConstants.{LONGEST_TEXT}
 use Rattle.mp_eval.specs.Gives.{IsSpent}
 use Rattle.mp_eval.specs.Run.{room_by, read_to_end, put_file, put_prelude, no_place}
-use Rattle.mp_eval.specs.Readings.{RanAs, asked_on, begun_on, only, unbegun_run}
+use Rattle.mp_eval.specs.Readings.{RanAs, IsPut, IsPreluded, asked_on, begun_on, only, unbegun_run}
 
 fits : (n : ℕ) → n ≤ LONGEST_TEXT → nat_le n LONGEST_TEXT ≡ true
 fits n h = grind (arith, nat_tests)
@@ -74,3 +80,24 @@ short_ran prelude name bytes budget run short ran =
       read = ran.read;
       spent = subst (λ (b : ℕ). IsSpent run.end run.steps b) (same_budget prelude bytes start) ran.spent;
     })
+
+-- the start of a text, by what was put in front of nothing
+pub begins : (kept : List Kept) (sources : List Kept) (prelude bytes read : List ℕ) (budget : ℕ) (first middle last : State) (nothing text more : List Pending) (place : Place) (m : Machine)
+    → first ≡ first_state → nothing ≡ [] → read ≡ bytes → kept ≡ sources → IsPut 1 read first nothing middle text → IsPreluded prelude middle text last more → place ≡ no_place
+    → m ≡ start_on kept more place last budget → m ≡ begun_on sources prelude bytes budget
+begins kept sources [] bytes read budget first middle last nothing text more place m a n r k b c d e = rw (e, d, c.0, c.1, b.1, b.0, a, n, r, k) refl
+begins kept sources (byte ∷ prelude) bytes read budget first middle last nothing text more place m a n r k b c d e = rw (e, d, c.1, c.0, b.1, b.0, a, n, r, k) refl
+
+-- what was read of a text, if memory was found
+pub short_result : (prelude name bytes : List ℕ) (budget : ℕ) (result : Result Run NoMemory) (begun : Machine) → length bytes ≤ LONGEST_TEXT → begun ≡ begun_on (only name (Here bytes)) prelude bytes budget
+    → IfOk result (λ run. RanAs run (whole the begun) begun)
+    → IfOk result (λ run. RanAs run (read_to_end prelude bytes (asked_on (only name (Here bytes)) budget)) (asked_on (only name (Here bytes)) budget))
+short_result prelude name bytes budget (Ok run) begun short is ran = short_ran prelude name bytes budget run short (subst (λ (m : Machine). RanAs run (whole the m) m) is ran)
+short_result prelude name bytes budget (Err e) begun short is ran = tt
+
+pub within_result : (prelude name bytes : List ℕ) (budget : ℕ) (result : Result Run NoMemory) (begun : Machine) → begun ≡ begun_on (only name (Here bytes)) prelude bytes budget
+    → IfOk result (λ run. run.steps ≤ begun.budget) → IfOk result (λ run. run.steps ≤ budget)
+within_result prelude name bytes budget (Ok run) begun is within =
+    let same : begun.budget ≡ budget = ap (λ (m : Machine). m.budget) is ∙ same_budget prelude bytes (asked_on (only name (Here bytes)) budget) in
+    subst (λ (b : ℕ). run.steps ≤ b) same within
+within_result prelude name bytes budget (Err e) begun is within = tt

@@ -1,9 +1,15 @@
 -- What the functions of a run answer, by what a text comes to.
-use Rattle.std.specs.Prelude.{ℕ, ◌≡◌, List, [], ◌∷◌}
+use Rattle.std.specs.Prelude.{ℕ, ◌≡◌, List, [], ◌∷◌, ◌++◌}
 use Rattle.mp_files.specs.declared.outside.Contents.{Contents}
 use Rattle.mp_files.specs.declared.outside.Kept.{Kept}
 use Rattle.mp_report.specs.declared.error.SourceError.TheVariants as error
+use Rattle.mp_tokens.specs.Items as tokens
+use Rattle.mp_values.specs.Items.{file_items}
 use Rattle.mp_values.specs.Outcome.{Unread}
+use Rattle.mp_values.specs.declared.turn.Pending.{Pending}
+use Rattle.mp_acts.specs.State.{State}
+use Rattle.mp_acts.specs.Tokens.{with_file}
+use Rattle.mp_input.specs.Lines.{items_pending}
 use Rattle.mp_acts.specs.Start.{first_state}
 use Rattle.mp_rules.specs.Machine.{Machine, Outcome}
 use Rattle.mp_rules.specs.Starts.{start_on}
@@ -38,6 +44,16 @@ pub record RanAs (run : Run) (outcome : Outcome (Unit {0})) (start : Machine) : 
   pub asked : (course_of outcome).asked ≡ start.asked
   pub read : IsRead (course_of outcome).ending
   pub spent : IsSpent run.end run.steps start.budget
+
+-- the state and the text after a file was put in front
+abbrev pub IsPut : ℕ → List ℕ → State → List Pending → State → List Pending → Type 0
+IsPut number bytes acts text acts_now text_now =
+    (acts_now ≡ with_file acts bytes) × (text_now ≡ items_pending (file_items number (tokens.tokens_in acts_now.symbols.names (tokens.file_items bytes))) ++ text)
+
+-- the same of a prelude
+abbrev pub IsPreluded : List ℕ → State → List Pending → State → List Pending → Type 0
+IsPreluded [] acts text acts_now text_now = (acts_now ≡ acts) × (text_now ≡ text)
+IsPreluded (byte ∷ bytes) acts text acts_now text_now = IsPut 0 (byte ∷ bytes) acts text acts_now text_now
 
 -- one source
 abbrev pub only : List ℕ → Contents → List Kept

@@ -1,14 +1,10 @@
 //! A whole run: the main file is asked for, cut into items, and read to its end.
 
 ghost use Rattle.std.specs.Prelude.{◌≡◌, ◌≤◌, ◌+◌, ◌++◌, ◌⊎◌, [], codes, IfOk, OnOk};
-ghost use Rattle.mp_tokens.specs.Items as tokens;
-ghost use Rattle.mp_values.specs.Items.{file_items};
-ghost use Rattle.mp_acts.specs.Tokens.{with_file};
-ghost use Rattle.mp_input.specs.Lines.{items_pending};
 ghost use Rattle.mp_rules.specs.Meaning.{the};
 ghost use Rattle.mp_rules.specs.Starts.{whole};
 ghost use Rattle.mp_eval.specs.Gives.{RunGives, starved_run};
-ghost use Rattle.mp_eval.specs.Readings.{RanAs, asked_on, begun_on, only, unbegun_run, no_such_file as absent_end};
+ghost use Rattle.mp_eval.specs.Readings.{RanAs, IsPut, IsPreluded, asked_on, begun_on, only, unbegun_run, no_such_file as absent_end};
 ghost use Rattle.mp_eval.specs.Run.{read_to_end};
 
 use crate::name::can_be_asked;
@@ -29,20 +25,37 @@ pub const LONGEST_TEXT: usize = 65536;
 
 /// Puts the items of a file in front of the text, and its names into the table.
 fn put_file(
+    alloc: Global,
     acts: &mut State,
     input: &mut Input,
     number: u32,
     bytes: &[u8],
 ) -> Result<(), NoMemory>
     requires { 1 ≤ input.old.spare }
-    ensures acts { OnOk result (acts.new ≡ with_file acts.old bytes.now) }
-    ensures text { OnOk result (input.new.text ≡ items_pending (file_items number (tokens.tokens_in acts.new.symbols.names (tokens.file_items bytes.now))) ++ input.old.text) }
+    ensures put { OnOk result (IsPut number bytes.now acts.old input.old.text acts.new input.new.text) }
     ensures last { input.new.last ≡ input.old.last }
     ensures spare { OnOk result (input.old.spare ≤ input.new.spare + 1) }
 {
     let tokens = acts.tokens_of_file(bytes)?;
-    input.push_file(number, Shared::new(tokens)?);
+    input.push_file(number, Shared::new(alloc, tokens)?);
     Ok(())
+}
+
+/// The same of what is read before the main file; an empty prelude has no items at all.
+fn put_prelude(
+    alloc: Global,
+    acts: &mut State,
+    input: &mut Input,
+    bytes: &[u8],
+) -> Result<(), NoMemory>
+    requires { 1 ≤ input.old.spare }
+    ensures put { OnOk result (IsPreluded bytes.now acts.old input.old.text acts.new input.new.text) }
+    ensures last { input.new.last ≡ input.old.last }
+{
+    match bytes {
+        [] => Ok(()),
+        [_, ..] => put_file(alloc, acts, input, 0, bytes),
+    }
 }
 
 /// An evaluator at the start of the text of the one source, behind a prelude.
@@ -58,10 +71,8 @@ fn evaluator_of(
     let mut acts = State::new(alloc)?;
     let mut input = Input::new(alloc);
     input.reserve(2)?;
-    put_file(&mut acts, &mut input, 1, bytes.as_slice())?;
-    if !prelude.is_empty() {
-        put_file(&mut acts, &mut input, 0, prelude)?;
-    }
+    put_file(alloc, &mut acts, &mut input, 1, bytes.as_slice())?;
+    put_prelude(alloc, &mut acts, &mut input, prelude)?;
     let sources = one_source(alloc, name, Contents::Here(bytes))?;
     Ok(Evaluator::new(alloc, sources, input, acts, budget))
 }
@@ -76,7 +87,7 @@ fn run_begun(alloc: Global, begun: Evaluator) -> Result<Run, NoMemory>
         Ok(()) => RunEnd::Done,
         Err(Stop::Refused(error)) => RunEnd::Source(error, evaluator.place()),
         Err(Stop::OutOfSteps) => RunEnd::OutOfSteps,
-        Err(Stop::Unread(_)) => RunEnd::ReadFault,
+        Err(Stop::Unread(_name)) => RunEnd::ReadFault,
         Err(Stop::NoMemory) => return Err(NoMemory),
     };
     let Finished {
@@ -134,10 +145,14 @@ fn run_long(alloc: Global, name: &[u8], bytes: Bytes) -> Result<Run, NoMemory>
 {
     let sources = one_source(alloc, name, Contents::Here(bytes))?;
     let what = Bytes::copy_of(alloc, b"long")?;
-    Ok(ended(alloc, sources, RunEnd::Source(SourceError::NotBuilt(what), NO_PLACE)))
+    Ok(ended(
+        alloc,
+        sources,
+        RunEnd::Source(SourceError::NotBuilt(what), NO_PLACE),
+    ))
 }
 
-#[tactic(auto, using(crate::proofs::Readings::long_ran, crate::proofs::Readings::short_ran))]
+#[tactic(auto, using(crate::proofs::Readings::long_ran))]
 fn try_run_on(
     alloc: Global,
     prelude: &[u8],
