@@ -6,7 +6,7 @@ use Rattle.mpost.specs.declared.deliver.Delivered.TheVariants as delivered
 use Rattle.mp_eval.specs.declared.outcome.Run.{Run}
 use Rattle.mp_files.specs.declared.outside.Written.{Written}
 use Rattle.mp_files.specs.declared.outside.Written.TheVariants as written
-use Rattle.mp_files.specs.Seen.{SinkSeen}
+use Rattle.mp_files.specs.Seen.{FilesSeen, SinkSeen}
 use Rattle.mpost.specs.declared.top.End.{End}
 use Rattle.mpost.specs.declared.top.End.TheVariants.{Usage, ReadFault, NoMemory}
 use Rattle.mpost.specs.declared.top.Report.{Report}
@@ -86,6 +86,16 @@ unread_alone Finished at before now cause more = absurd (omega (arith, cause))
 unread_alone (Stopped (Unread name) place) at before now cause more = after_unread at
 unread_alone (Stopped (Refused error) place) at before now cause more = absurd (omega (arith, cause))
 unread_alone (Stopped OutOfSteps place) at before now cause more = absurd (omega (arith, cause))
+
+-- a count of reads never falls
+later_of : (ending : Ending) (before now : ℕ) → ReadCause ending before now → before ≤ now
+later_of Finished before now cause = omega (arith, cause)
+later_of (Stopped (Unread name) place) before now cause = cause.0
+later_of (Stopped (Refused error) place) before now cause = omega (arith, cause)
+later_of (Stopped OutOfSteps place) before now cause = omega (arith, cause)
+
+pub later_by : (run : Run) (course : Course) (before now : FilesSeen) → Follows run course before now → before.faults ≤ now.faults
+later_by run course before now follows = later_of course.ending before.faults now.faults follows.cause
 
 -- where the count of reads is greater than before, the end says so
 pub reads_counted_by : (line : CommandLine) (report : Report) (before now : Outside)

@@ -4,8 +4,6 @@ ghost use Rattle.mpost.specs.Headline.{AllIsWritten};
 
 /// Law: where nothing outside failed and memory was found, the bytes that the sink gained are the lines that the sources
 /// mean, and the line of their end.
-#[tactic(auto, using(crate::proofs::Outcomes::all_is_written))]
 pub fn all_is_written()
     ensures { AllIsWritten }
-{
-}
+{}

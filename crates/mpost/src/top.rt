@@ -10,7 +10,7 @@ ghost use Rattle.mpost.specs.Headline as headline;
 ghost use Rattle.mpost.specs.Headline.{Outside, Outcome, RunOutcome, NoneRose, IsOwnEnd, WritesCounted, IsReadFault, Says, line_of, name_of_source};
 
 use crate::deliver::{Delivered, deliver, write};
-use crate::words::{Command, name_of_file, read_words};
+use crate::words::{Command, DEFAULT_BUDGET, name_of_file, read_words};
 use itoa::Buffer;
 use mp_eval::{Run, RunEnd, run};
 use mp_files::{Files, Kept, Shelf, Sink, Sources, Written};
