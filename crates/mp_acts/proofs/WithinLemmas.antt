@@ -51,21 +51,6 @@ with_variables is h = record {
   history = is.history;
 }
 
--- and with one more slot, which is open
-pub with_slot : {past : Meaning} {count : ℕ} {unknowns : Unknowns} {variables : Variables} {old : List (Option Value)} {events : List Event}
-    → IsKept past count unknowns variables old events → IsKept past count unknowns variables (old ++ None ∷ []) events
-with_slot {unknowns = unknowns} {old = old} is = record {
-  past_is = is.past_is;
-  counted = is.counted;
-  within = record {
-    few = is.within.few;
-    forms = is.within.forms;
-    held = is.within.held;
-    filled = All-push (λ slot. reach_of_slot slot ≤ length unknowns.states) old None is.within.filled (omega arith);
-  };
-  history = is.history;
-}
-
 -- a new root changes no variable
 pub rooted_within : (n : ℕ) (old new : Variables) → new ≡ variables.with_new_root old → HoldWithin n old → HoldWithin n new
 rooted_within n old new e h = subst (λ (w : Variables). HoldWithin n w) (sym e) h

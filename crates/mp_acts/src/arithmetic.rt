@@ -4,9 +4,10 @@
 //! then what must be known is tested (`NotKnown`). `Overflow`, `CoefficientTooLarge` and `DivisionByZero` are those of
 //! the forms. The operators are named as in the language.
 
-ghost use Rattle.std.specs.Prelude.{ℤ, ◌≡◌, ◌≤◌, ◌<◌, ◌^◌, unsigned_abs, IfOk};
+ghost use Rattle.std.specs.Prelude.{◌≡◌, ◌≢◌, ◌≤◌, ◌<◌, ◌^◌, Err, unsigned_abs, IfOk};
 ghost use Rattle.mp_forms.specs.Forms.{product_of};
 ghost use Rattle.mp_values.specs.Outcome.{Gives, lift};
+ghost use Rattle.mp_values.specs.declared.fault.Fault.TheVariants.{NoMemory as WantOfMemory};
 ghost use Rattle.mp_acts.specs.State.{unknown_count};
 ghost use Rattle.mp_acts.specs.Reach.{reach, reach_of_form};
 ghost use Rattle.mp_acts.specs.Operands.{or_refused};
@@ -76,6 +77,7 @@ impl State {
     #[tactic(auto, unfolding(crate::specs::Arithmetic::fraction))]
     pub fn fraction(&self, over: Scaled, under: Scaled) -> Result<Value, Fault>
         ensures exact { Gives result self.now (lift (arithmetic.fraction over under) self.now) }
+        ensures sure { result ≢ Err WantOfMemory }
         ensures within { IfOk result (λ v. reach v ≡ 0) }
     {
         let units = make_scaled(i64::from(over.units()), i64::from(under.units()))?;
