@@ -185,10 +185,13 @@ unfolding declare without_names
 declared_anew = refl
 
 -- a symbol without a root becomes the tag of one where its declaration is accepted
-new_tag : ◌≡◌ {A = Outcome State (Unit {0})} (declare 2 [] kind.Boolean start) (Ok (tt, record start {
-  variables = record start.variables { roots = 3; declarations = (shape.Sym 2 ∷ [], declared.Typed kind.Boolean) ∷ [] };
-  symbols = record start.symbols { names = (codes "x", Tag 0) ∷ (codes "y", Tag 1) ∷ (codes "z", Tag 2) ∷ [] };
-}))
+new_tag : ◌≡◌ {A = Outcome State (Unit {0})} (declare 2 [] kind.Boolean start) (Ok (
+  tt,
+  record start {
+    variables = record start.variables { roots = 3; declarations = (shape.Sym 2 ∷ [], declared.Typed kind.Boolean) ∷ [] };
+    symbols = record start.symbols { names = (codes "x", Tag 0) ∷ (codes "y", Tag 1) ∷ (codes "z", Tag 2) ∷ [] };
+  },
+))
 unfolding declare without_names
 new_tag = refl
 

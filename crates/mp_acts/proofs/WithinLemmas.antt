@@ -34,7 +34,7 @@ use Rattle.mp_acts.specs.Kept.{IsKept}
 use Rattle.mp_acts.specs.Variables.{without_names}
 use Rattle.mp_acts.specs.declared.event.Event.{Event as Kept}
 use Rattle.mp_acts.specs.declared.limits.TheConstants.{UNKNOWN_LIMIT}
-use Rattle.mp_acts.proofs.EventLemmas.{map_push, events_fresh, events_equation, states_without_names, events_without_names}
+use Rattle.mp_acts.proofs.EventLemmas.{map_push, events_fresh, states_without_names, events_without_names}
 use Rattle.mp_acts.proofs.ReachLemmas.{reach_of_counted}
 
 -- each variable reaches so far at most
@@ -144,8 +144,8 @@ module _ (before : Unknowns) (name : List ℕ) (serial : ℕ) (after : Unknowns)
       let n = length before.states in
       let m = length after.states in
       let forms : All (λ known. reach_of_known known ≤ m) (with_fresh before.states) =
-          All-push (λ known. reach_of_known known ≤ m) before.states None
-          (All-weaker (λ known. reach_of_known known ≤ n) (λ known. reach_of_known known ≤ m) (λ known h. omega (arith, length_made, h)) before.states is.forms) (omega arith) in
+      All-push (λ known. reach_of_known known ≤ m) before.states None
+      (All-weaker (λ known. reach_of_known known ≤ n) (λ known. reach_of_known known ≤ m) (λ known h. omega (arith, length_made, h)) before.states is.forms) (omega arith) in
       record {
         few = omega (arith, length_made, made_is.0);
         forms = subst (λ (states : States). All (λ known. reach_of_known known ≤ m) states) (sym made_is.2) forms;

@@ -1,7 +1,6 @@
 //! Equations between two values.
 
-ghost use Rattle.std.specs.Prelude.{◌≡◌, ◌≢◌, ◌≤◌, Ok, Err, IfOk, IfErr, OnOk, OnErr};
-ghost use Rattle.mp_forms.specs.Terms.{AreTerms};
+ghost use Rattle.std.specs.Prelude.{◌≡◌, ◌≢◌, ◌≤◌, Ok, Err, IfOk, IfErr};
 ghost use Rattle.mp_solver.specs.Elimination.{eliminate};
 ghost use Rattle.mp_solver.specs.Reduction.{reduce_of};
 ghost use Rattle.mp_values.specs.Outcome.{Gives, IsWhole, change, error_of};
@@ -63,6 +62,7 @@ impl State {
         }
     }
 
+    /// Makes two values of one type equal that are no filled slots.
     fn equate(&mut self, left: &Value, right: &Value) -> Result<(), Fault>
         requires left { reach left.now ≤ unknown_count self.old }
         requires right { reach right.now ≤ unknown_count self.old }

@@ -1,7 +1,7 @@
 //! The tokens of a file, over the table of names.
 
 ghost use Rattle.std.specs.Prelude.{◌≡◌, ◌+◌, ◌≤◌, length, All, IfOk, OnOk, OnErr};
-ghost use Rattle.mp_tokens.specs.Items.{Item, file_items, tokens_in, IsNumbered};
+ghost use Rattle.mp_tokens.specs.Items.{file_items, tokens_in, IsNumbered};
 ghost use Rattle.mp_acts.specs.State.{unknown_count};
 ghost use Rattle.mp_acts.specs.Tokens.{with_file, GainsSomeNames};
 

@@ -1,6 +1,6 @@
 //! Variables: their roots, their declarations, how they are read, and what is assigned.
 
-ghost use Rattle.std.specs.Prelude.{ℕ, ◌≡◌, ◌≤◌, ◌<◌, true, [], ◌∷◌, ◌++◌, None, Ok, Err, length, vec_len, vec_capacity, IfOk, IfSome, OnOk, OnErr};
+ghost use Rattle.std.specs.Prelude.{ℕ, ◌≡◌, ◌≤◌, ◌<◌, true, [], None, Ok, Err, length, vec_len, vec_capacity, IfOk, IfSome, OnOk, OnErr};
 ghost use Rattle.std.specs.Option.{option_map};
 ghost use Rattle.mp_solver.specs.States.{fresh_of};
 ghost use Rattle.mp_values.specs.Outcome.{Gives, IsWhole, change};
