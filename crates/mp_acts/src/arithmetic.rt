@@ -41,7 +41,8 @@ impl State {
     pub fn secondary(&self, op: Secondary, left: &Value, right: &Value) -> Result<Value, Fault>
         requires left { reach left.now ≤ unknown_count self.now }
         requires right { reach right.now ≤ unknown_count self.now }
-        ensures exact { Gives result self.now (arithmetic.secondary op left.now right.now self.now) }
+        ensures exact { Gives result self.now
+            (arithmetic.secondary op left.now right.now self.now) }
         ensures within { IfOk result (λ v. reach v ≤ unknown_count self.now) }
     {
         match op {
@@ -132,7 +133,8 @@ impl State {
     ) -> Result<Form, Fault>
         requires left { reach left.now ≤ unknown_count self.now }
         requires right { reach right.now ≤ unknown_count self.now }
-        ensures exact { Gives result self.now (arithmetic.difference_by op.now left.now right.now self.now) }
+        ensures exact { Gives result self.now
+            (arithmetic.difference_by op.now left.now right.now self.now) }
         ensures within { IfOk result (λ p. reach_of_form p ≤ unknown_count self.now) }
     {
         self.combined(op, -ONE, left, right)
@@ -144,7 +146,8 @@ impl State {
         requires factor { unsigned_abs f < 2 ^ 44 }
         requires left { reach left.now ≤ unknown_count self.now }
         requires right { reach right.now ≤ unknown_count self.now }
-        ensures exact { Gives result self.now (arithmetic.combined op.now f left.now right.now self.now) }
+        ensures exact { Gives result self.now
+            (arithmetic.combined op.now f left.now right.now self.now) }
         ensures within { IfOk result (λ p. reach_of_form p ≤ unknown_count self.now) }
     {
         let (p, q) = self.operands(op, left, right)?;
@@ -166,7 +169,8 @@ impl State {
     fn product_by(&self, p: &Form, q: &Form) -> Result<Form, Fault>
         requires left { reach_of_form p.now ≤ unknown_count self.now }
         requires right { reach_of_form q.now ≤ unknown_count self.now }
-        ensures exact { Gives result self.now (lift (arithmetic.product_by p.now q.now p.now.terms q.now.terms) self.now) }
+        ensures exact { Gives result self.now
+            (lift (arithmetic.product_by p.now q.now p.now.terms q.now.terms) self.now) }
         ensures within { IfOk result (λ form. reach_of_form form ≤ unknown_count self.now) }
     {
         if q.terms().is_empty() {
@@ -181,7 +185,8 @@ impl State {
     /// A form multiplied by a known number, in units of 2^-16.
     fn times(&self, form: &Form, factor: i32) -> Result<Form, Fault>
         requires { reach_of_form form.now ≤ unknown_count self.now }
-        ensures exact { Gives result self.now (lift (or_refused (product_of factor form.now)) self.now) }
+        ensures exact { Gives result self.now
+            (lift (or_refused (product_of factor form.now)) self.now) }
         ensures within { IfOk result (λ p. reach_of_form p ≤ unknown_count self.now) }
     {
         Ok(form.scale_by(self.alloc, factor)??)
