@@ -45,8 +45,8 @@ module _ (before : Unknowns) (name : List ℕ) (serial : ℕ) (now : Unknowns) (
 
 -- an equation that was accepted
 module _ (before : Unknowns) (difference residual : LinearForm) (now : Unknowns) (terms : AreTerms difference.terms) (over : IsOver before.states difference)
-      (reduced : Ok residual ≡ reduce_of before.states difference) (exact : (Accepted, now.states) ≡ eliminate before.states residual) (names : now.names ≡ before.names)
-      (as_many : length now.states ≡ length before.states) where
+    (reduced : Ok residual ≡ reduce_of before.states difference) (exact : (Accepted, now.states) ≡ eliminate before.states residual) (names : now.names ≡ before.names)
+    (as_many : length now.states ≡ length before.states) where
   made_equation : {events : List Event} → IsMadeBy events before → IsMadeBy (events ++ event.Equation difference ∷ []) now
   made_equation {events = events} made =
       let Made_of : List (Option (List ℕ)) → Type 0 = λ names. IsMadeBy (events ++ event.Equation difference ∷ []) (record { states = now.states; names = names }) in

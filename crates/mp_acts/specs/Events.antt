@@ -1,5 +1,5 @@
 -- The unknowns of a state stand as the replay of its events leaves them.
-use Rattle.std.specs.Prelude.{◌≡◌, ◌+◌, List, length, count_by}
+use Rattle.std.specs.Prelude.{◌≡◌, List, length, count_by}
 use Rattle.mp_solver.specs.States.{Unknowns}
 use Rattle.mp_solver.specs.Replay.{Event, Fresh, Equation, replay, IsMadeBy}
 use Rattle.mp_acts.specs.State.{is_fresh}

@@ -1,7 +1,6 @@
 //! Equations between two values.
 
-ghost use Rattle.std.specs.Prelude.{◌≡◌, ◌≢◌, ◌≤◌, Ok, Err, IfOk, IfErr, OnOk, OnErr};
-ghost use Rattle.mp_forms.specs.Terms.{AreTerms};
+ghost use Rattle.std.specs.Prelude.{◌≡◌, ◌≢◌, ◌≤◌, Ok, Err, IfOk, IfErr};
 ghost use Rattle.mp_solver.specs.Elimination.{eliminate};
 ghost use Rattle.mp_solver.specs.Reduction.{reduce_of};
 ghost use Rattle.mp_values.specs.Outcome.{Gives, IsWhole, change, error_of};
@@ -52,7 +51,8 @@ impl State {
     fn equate_settled(&mut self, left: &Value, right: &Value) -> Result<(), Fault>
         requires left { reach left.now ≤ unknown_count self.old }
         requires right { reach right.now ≤ unknown_count self.old }
-        ensures exact { Gives result self.new (equations.equate_as (are_of_one_kind left.now right.now) left.now right.now self.old) }
+        ensures exact { Gives result self.new
+            (equations.equate_as (are_of_one_kind left.now right.now) left.now right.now self.old) }
         ensures whole { IsWhole result self.old self.new }
         ensures counts { unknown_count self.old ≤ unknown_count self.new }
     {
@@ -63,6 +63,7 @@ impl State {
         }
     }
 
+    /// Makes two values of one type equal that are no filled slots.
     fn equate(&mut self, left: &Value, right: &Value) -> Result<(), Fault>
         requires left { reach left.now ≤ unknown_count self.old }
         requires right { reach right.now ≤ unknown_count self.old }
@@ -133,7 +134,8 @@ impl State {
     fn equate_numbers(&mut self, left: &Value, right: &Value) -> Result<(), Fault>
         requires left { reach left.now ≤ unknown_count self.old }
         requires right { reach right.now ≤ unknown_count self.old }
-        ensures exact { Gives result self.new (equations.equate_numbers left.now right.now self.old) }
+        ensures exact { Gives result self.new
+            (equations.equate_numbers left.now right.now self.old) }
         ensures whole { IsWhole result self.old self.new }
         ensures counts { unknown_count self.old ≤ unknown_count self.new }
     {
@@ -145,11 +147,15 @@ impl State {
     /// A difference brought up to date, with all that it needs to be made 0.
     fn ready(&mut self, difference: &Form) -> Result<Ready, Fault>
         requires { reach_of_form difference.now ≤ unknown_count self.old }
-        ensures ok { IfOk result (λ ready. operands.up_to_date difference.now self.old ≡ Ok (ready.residual, self.old)) }
-        ensures err { IfErr result (λ made. made ≢ WantOfMemory → operands.up_to_date difference.now self.old ≡ Err (error_of made, self.old)) }
-        ensures reduced { IfOk result (λ ready. Ok ready.residual ≡ reduce_of self.old.unknowns.states difference.now) }
+        ensures ok { IfOk result (λ ready. operands.up_to_date difference.now self.old
+            ≡ Ok (ready.residual, self.old)) }
+        ensures err { IfErr result (λ made. made ≢ WantOfMemory
+            → operands.up_to_date difference.now self.old ≡ Err (error_of made, self.old)) }
+        ensures reduced { IfOk result (λ ready. Ok ready.residual
+            ≡ reduce_of self.old.unknowns.states difference.now) }
         ensures made_for { IfOk result (λ ready. ready.made_for ≡ self.old.unknowns) }
-        ensures within { IfOk result (λ ready. reach_of_form ready.residual ≤ unknown_count self.old) }
+        ensures within { IfOk result (λ ready. reach_of_form ready.residual
+            ≤ unknown_count self.old) }
         ensures same { self.new ≡ self.old }
     {
         Ok(self.system.ready(difference)??)
@@ -162,7 +168,8 @@ impl State {
         requires reduced { Ok ready.residual ≡ reduce_of self.old.unknowns.states difference.now }
         requires made_for { ready.made_for ≡ self.old.unknowns }
         requires within { reach_of_form ready.residual ≤ unknown_count self.old }
-        ensures exact { Gives result self.new (equations.vanish difference.now ready.residual self.old) }
+        ensures exact { Gives result self.new
+            (equations.vanish difference.now ready.residual self.old) }
         ensures whole { IsWhole result self.old self.new }
         ensures counts { unknown_count self.old ≤ unknown_count self.new }
     {
@@ -183,8 +190,10 @@ impl State {
         requires reduced { Ok ready.residual ≡ reduce_of self.old.unknowns.states difference.now }
         requires made_for { ready.made_for ≡ self.old.unknowns }
         requires within { reach_of_form ready.residual ≤ unknown_count self.old }
-        ensures exact { IfOk result (λ answer. (answer, self.new.unknowns.states) ≡ eliminate self.old.unknowns.states ready.residual) }
-        ensures accepted { result ≡ Ok Equated.Accepted → self.new ≡ equations.with_equation self.old difference.now self.new.unknowns.states }
+        ensures exact { IfOk result (λ answer. (answer, self.new.unknowns.states)
+            ≡ eliminate self.old.unknowns.states ready.residual) }
+        ensures accepted { result ≡ Ok Equated.Accepted
+            → self.new ≡ equations.with_equation self.old difference.now self.new.unknowns.states }
         ensures refused { result ≢ Ok Equated.Accepted → self.new ≡ self.old }
         ensures counts { unknown_count self.new ≡ unknown_count self.old }
     {

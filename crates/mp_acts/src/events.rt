@@ -17,7 +17,8 @@ impl State {
         ensures made { AreMadeBy self.now.events self.now.unknowns }
         ensures replayed { self.now.unknowns.states ≡ replay self.now.events }
         ensures unknowns { unknown_count self.now ≡ made_unknowns self.now }
-        ensures equations { length (forms_in self.now.unknowns.states) ≡ accepted_equations self.now }
+        ensures equations { length (forms_in self.now.unknowns.states)
+            ≡ accepted_equations self.now }
     {
         let _system = &self.system;
         systems_are_replays();

@@ -48,7 +48,9 @@ pub(crate) fn set_meaning(symbols: &mut Symbols<Meaning>, symbol: u32, new: Mean
 
 /// Makes a symbol a new tag, up to the end of the group.
 pub(crate) fn save(symbols: &mut Symbols<Meaning>, symbol: u32) -> Result<(), NoMemory>
-    ensures ok { OnOk result (symbols.new ≡ cond (nat_lt symbol (length symbols.old.names)) (table.save symbols.old symbol NewTag) symbols.old) }
+    ensures ok { OnOk result (symbols.new
+        ≡ cond (nat_lt symbol (length symbols.old.names))
+        (table.save symbols.old symbol NewTag) symbols.old) }
     ensures err { OnErr result (symbols.new ≡ symbols.old) }
 {
     if symbols.has(symbol) {

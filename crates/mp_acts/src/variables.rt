@@ -1,6 +1,6 @@
 //! Variables: their roots, their declarations, how they are read, and what is assigned.
 
-ghost use Rattle.std.specs.Prelude.{ℕ, ◌≡◌, ◌≤◌, ◌<◌, true, [], ◌∷◌, ◌++◌, None, Ok, Err, length, vec_len, vec_capacity, IfOk, IfSome, OnOk, OnErr};
+ghost use Rattle.std.specs.Prelude.{ℕ, ◌≡◌, ◌≤◌, ◌<◌, true, [], None, Ok, Err, length, vec_len, vec_capacity, IfOk, IfSome, OnOk, OnErr};
 ghost use Rattle.std.specs.Option.{option_map};
 ghost use Rattle.mp_solver.specs.States.{fresh_of};
 ghost use Rattle.mp_values.specs.Outcome.{Gives, IsWhole, change};
@@ -96,7 +96,8 @@ impl State {
 
     /// The value of a variable, if it has one.
     fn value(&self, root: u32, name: &[Part]) -> Option<&Value>
-        ensures held { option_map (λ v. v.now) result ≡ option_map (λ x. x.value) (variable_at self.now.variables root name.now) }
+        ensures held { option_map (λ v. v.now) result
+            ≡ option_map (λ x. x.value) (variable_at self.now.variables root name.now) }
         ensures within { IfSome result (λ v. reach v.now ≤ unknown_count self.now) }
     {
         match self.variables.variable_at(root, name) {
@@ -107,7 +108,8 @@ impl State {
 
     /// Gives a variable an unknown or a slot of its own.
     fn read_anew(&mut self, symbol: u32, root: u32, name: &[Part]) -> Result<Value, Fault>
-        ensures exact { Gives result self.new (variables.value_of symbol root name.now None self.old) }
+        ensures exact { Gives result self.new
+            (variables.value_of symbol root name.now None self.old) }
         ensures part { result ≡ Err WantOfMemory → IsReadInPart symbol name.now self.old self.new }
         ensures within { IfOk result (λ v. reach v ≤ unknown_count self.new) }
         ensures counts { unknown_count self.old ≤ unknown_count self.new }
@@ -129,7 +131,8 @@ impl State {
     /// Makes a variable a new unknown of its name.
     fn new_unknown(&mut self, symbol: u32, root: u32, name: &[Part]) -> Result<Value, Fault>
         requires { wanted_kind self.old.variables root name.now ≡ Kind.Numeric }
-        ensures exact { Gives result self.new (variables.made_value symbol root name.now Kind.Numeric self.old) }
+        ensures exact { Gives result self.new
+            (variables.made_value symbol root name.now Kind.Numeric self.old) }
         ensures part { result ≡ Err WantOfMemory → IsReadInPart symbol name.now self.old self.new }
         ensures within { IfOk result (λ v. reach v ≤ unknown_count self.new) }
         ensures counts { unknown_count self.old ≤ unknown_count self.new }
@@ -147,8 +150,10 @@ impl State {
     /// One more unknown of that name, unless there are so many already. Its making is the newest event, for which there
     /// is room before it.
     fn fresh_unknown(&mut self, name: &[u8]) -> Result<Fresh, NoMemory>
-        ensures exact { IfOk result (λ answer. (answer, self.new.unknowns) ≡ fresh_of self.old.unknowns name.now) }
-        ensures made { (serial : ℕ) → result ≡ Ok (Fresh.Made serial) → self.new ≡ variables.with_unknown self.old self.new.unknowns }
+        ensures exact { IfOk result (λ answer. (answer, self.new.unknowns)
+            ≡ fresh_of self.old.unknowns name.now) }
+        ensures made { (serial : ℕ) → result ≡ Ok (Fresh.Made serial)
+            → self.new ≡ variables.with_unknown self.old self.new.unknowns }
         ensures limit { result ≡ Ok Fresh.Limit → self.new ≡ self.old }
         ensures err { OnErr result (self.new ≡ self.old) }
         ensures within { IfOk result (λ answer. reach_of_fresh answer ≤ unknown_count self.new) }
@@ -188,7 +193,8 @@ impl State {
     /// Gives a variable a value that was made for it.
     fn keep_made(&mut self, root: u32, name: &[Part], value: Value) -> Result<Value, Fault>
         requires within { reach value ≤ unknown_count self.old }
-        requires fits { is_kind (wanted_kind self.old.variables root name.now) (kind_of value) ≡ true }
+        requires fits { is_kind (wanted_kind self.old.variables root name.now) (kind_of value)
+            ≡ true }
         ensures exact { Gives result self.new (variables.read_anew self.old root name.now value) }
         ensures whole { IsWhole result self.old self.new }
         ensures within { IfOk result (λ v. reach v ≤ unknown_count self.new) }
@@ -218,7 +224,8 @@ impl State {
 
     /// The root that a symbol has, or the next, which is used up.
     fn root_for(&mut self, symbol: u32) -> Result<u32, Fault>
-        ensures exact { Gives result self.new (variables.root_for (symbol_meaning self.old symbol) self.old) }
+        ensures exact { Gives result self.new
+            (variables.root_for (symbol_meaning self.old symbol) self.old) }
         ensures roots { SameButRoots self.old self.new }
         ensures counts { unknown_count self.new ≡ unknown_count self.old }
     {
@@ -230,7 +237,8 @@ impl State {
 
     /// A root that was never given before.
     fn next_root(&mut self) -> Result<u32, NoMemory>
-        ensures exact { IfOk result (λ root. Ok (root, self.new) ≡ variables.root_for NewTag self.old) }
+        ensures exact { IfOk result (λ root. Ok (root, self.new)
+            ≡ variables.root_for NewTag self.old) }
         ensures roots { SameButRoots self.old self.new }
         ensures err { OnErr result (self.new ≡ self.old) }
         ensures counts { unknown_count self.new ≡ unknown_count self.old }
@@ -246,7 +254,8 @@ impl State {
         name: &[Shape],
         kind: Kind,
     ) -> Result<(), Fault>
-        ensures exact { Gives result self.new (variables.declare_root symbol name.now kind root self.old) }
+        ensures exact { Gives result self.new
+            (variables.declare_root symbol name.now kind root self.old) }
         ensures whole { IsWhole result self.old self.new }
         ensures counts { unknown_count self.old ≤ unknown_count self.new }
     {
@@ -316,7 +325,8 @@ impl State {
 
     fn assign_variable(&mut self, root: u32, name: &[Part], value: &Value) -> Result<(), Fault>
         requires { reach value.now ≤ unknown_count self.old }
-        ensures exact { Gives result self.new (variables.assign_variable root name.now value.now self.old) }
+        ensures exact { Gives result self.new
+            (variables.assign_variable root name.now value.now self.old) }
         ensures whole { IsWhole result self.old self.new }
         ensures counts { unknown_count self.old ≤ unknown_count self.new }
     {
@@ -345,8 +355,10 @@ impl State {
     /// Gives a variable another value. The unknowns that were made for it have no names any more.
     fn replace(&mut self, root: u32, name: &[Part], value: Value) -> Result<(), Fault>
         requires within { reach value ≤ unknown_count self.old }
-        requires fits { is_kind (wanted_kind self.old.variables root name.now) (kind_of value) ≡ true }
-        ensures exact { Gives result self.new (change (λ s. variables.replaced s root name.now value) self.old) }
+        requires fits { is_kind (wanted_kind self.old.variables root name.now) (kind_of value)
+            ≡ true }
+        ensures exact { Gives result self.new
+            (change (λ s. variables.replaced s root name.now value) self.old) }
         ensures whole { IsWhole result self.old self.new }
         ensures counts { unknown_count self.old ≤ unknown_count self.new }
     {

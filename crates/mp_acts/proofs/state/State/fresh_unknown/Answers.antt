@@ -1,4 +1,3 @@
-use Rattle.mp_solver.specs.declared.fresh.Fresh.TheVariants.{Made}
 use Rattle.mp_acts.specs.declared.event.Event.TheVariants as event
 use Rattle.mp_acts.proofs.WithinLemmas.{with_unknown, with_event}
 use Rattle.mp_acts.proofs.state.State.fresh_unknown.Goals as goal
