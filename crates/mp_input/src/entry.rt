@@ -12,7 +12,6 @@ use crate::text::Text;
 use mp_report::Place;
 use mp_scaled::{NoMemory, Shared};
 use mp_values::{Item, Pending, Turn};
-use std::alloc::Global;
 
 /// What is left of what was put in front of the text at once.
 #[derive(Drop)]
@@ -28,12 +27,12 @@ pub(crate) enum Entry {
 
 impl Entry {
     /// The first of what is left.
-    pub(crate) fn take(&mut self, alloc: Global) -> Result<Option<Pending>, NoMemory>
+    pub(crate) fn take(&mut self) -> Result<Option<Pending>, NoMemory>
         ensures taken { TakenFrom (entry_items self.old) result (entry_items self.new) }
         ensures plain { IsPlain self.old → IsPlain self.new }
     {
         match self {
-            Entry::Text(text) => Ok(text.take(alloc)?.map(|i| Pending::Item(i))),
+            Entry::Text(text) => Ok(text.take()?.map(|i| Pending::Item(i))),
             Entry::File(file) => Ok(file.take()?.map(|i| Pending::Item(i))),
             Entry::One(item) => Ok(item.take().map(|i| Pending::Item(i))),
             Entry::Turn(turn) => Ok(turn.take().map(|t| Pending::Turn(t))),

@@ -7,7 +7,6 @@ ghost use Rattle.mp_input.specs.Taken.{TakenFrom};
 
 use mp_scaled::{NoMemory, Shared};
 use mp_values::{Arguments, Item, Items};
-use std::alloc::Global;
 use std::marker::Model;
 
 /// A place in a body.
@@ -85,7 +84,7 @@ impl Text {
 
     /// The first item that is left.
     #[tactic(auto, using(crate::proofs::TextLemmas::text_goes, crate::proofs::TextLemmas::text_passes, crate::proofs::TextLemmas::text_ends))]
-    pub(crate) fn take(&mut self, alloc: Global) -> Result<Option<Item>, NoMemory>
+    pub(crate) fn take(&mut self) -> Result<Option<Item>, NoMemory>
         ensures { TakenFrom self.old result self.new }
     {
         'items: loop {
@@ -93,7 +92,7 @@ impl Text {
                 Some(item) => {
                     match given(item, self.next.inner, &self.arguments) {
                         Some(found) => {
-                            let taken = found.copy(alloc)?;
+                            let taken = found.share()?;
                             self.next.inner += 1;
                             return Ok(Some(taken));
                         }
