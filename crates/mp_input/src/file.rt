@@ -82,12 +82,12 @@ impl FileRest {
     pub(crate) fn take(&mut self) -> Result<Option<Item>, NoMemory>
         ensures { TakenFrom self.old result self.new }
     {
-        if self.at < self.end && !self.ended {
+        if self.ended {
+            Ok(None)
+        } else if self.at < self.end {
             let item = Item::of(self.file, &self.tokens.get().as_slice()[self.at])?;
             self.at += 1;
             Ok(Some(item))
-        } else if self.ended {
-            Ok(None)
         } else {
             self.ended = true;
             Ok(Some(Item::FileEnd))
@@ -127,10 +127,7 @@ impl FileRest {
     pub(crate) fn end_after_line(&mut self)
         ensures { first_line (items_pending self.old) ≢ None → (below : List Pending) → end_file_after_line (items_pending self.old ++ below) ≡ items_pending self.new ++ below }
     {
-        if self.ended {
-            return;
-        }
-        if self.cut && self.at < self.end {
+        if self.ended || (self.cut && self.at < self.end) {
             return;
         }
         match line_at(&self.tokens.get().as_slice()[self.at..self.end]) {
