@@ -54,6 +54,20 @@ fn line_of(token: &Token) -> Option<u32>
     }
 }
 
+// The first end of a line of tokens of that file.
+#[tactic(auto, using(crate::proofs::LineLemmas::line_is_found, crate::proofs::LineLemmas::line_is_passed, crate::proofs::LineLemmas::line_is_none))]
+fn first_line_of(file: u32, tokens: &[Token]) -> Option<Place>
+    ensures { result ≡ first_line (items_pending (file_items file tokens.now)) }
+{
+    'tokens: for token in tokens {
+        match line_of(token) {
+            Some(line) => return Some(Place { file, line }),
+            None => (),
+        }
+    }
+    None
+}
+
 // Where the first end of a line is.
 fn line_at(tokens: &[Token]) -> Option<usize>
     ensures { result ≡ position is_line tokens.now }
@@ -102,24 +116,14 @@ impl FileRest {
     }
 
     /// The first end of a line that is left.
-    #[tactic(auto, using(crate::proofs::RestLemmas::file_none, crate::proofs::RestLemmas::file_some))]
+    #[tactic(auto, using(crate::proofs::RestLemmas::rest_is))]
     pub(crate) fn first_line(&self) -> Option<Place>
         ensures { result ≡ first_line (items_pending self.now) }
     {
         if self.ended {
             return None;
         }
-        let rest = &self.tokens.get().as_slice()[self.at..self.end];
-        match line_at(rest) {
-            Some(at) => match line_of(&rest[at]) {
-                Some(line) => Some(Place {
-                    file: self.file,
-                    line,
-                }),
-                None => None,
-            },
-            None => None,
-        }
+        first_line_of(self.file, &self.tokens.get().as_slice()[self.at..self.end])
     }
 
     /// Ends the file after its first end of a line, if it has one.
