@@ -116,14 +116,18 @@ impl FileRest {
     }
 
     /// The first end of a line that is left.
-    #[tactic(auto, using(crate::proofs::RestLemmas::rest_is))]
+    #[tactic(auto, using(crate::proofs::RestLemmas::rest_is, crate::proofs::CutLemmas::cut_line))]
     pub(crate) fn first_line(&self) -> Option<Place>
         ensures { result ≡ first_line (items_pending self.now) }
     {
         if self.ended {
             return None;
         }
-        first_line_of(self.file, &self.tokens.get().as_slice()[self.at..self.end])
+        let tokens = self.tokens.get().as_slice();
+        if self.cut && self.at < self.end {
+            return first_line_of(self.file, &tokens[self.end - 1..self.end]);
+        }
+        first_line_of(self.file, &tokens[self.at..self.end])
     }
 
     /// Ends the file after its first end of a line, if it has one.

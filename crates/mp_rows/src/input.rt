@@ -268,3 +268,24 @@ fn a_high_stack(rt: HostRuntime) -> Result<(), Fail> {
     }
     Ok(())
 }
+
+// A mark looks at no token that lies behind it on the line.
+#[test]
+fn many_marks_on_one_line(rt: HostRuntime) -> Result<(), Fail> {
+    let alloc = rt.alloc();
+    let mut tokens = Listing::new(alloc);
+    for _ in 0..200_000 {
+        tokens.push(Token::Sym(u32::from(b'x')))?;
+    }
+    tokens.push(Token::LineEnd(1))?;
+    tokens.push(Token::Sym(u32::from(b'y')))?;
+    let mut input = Input::new(alloc);
+    input.reserve(1)?;
+    input.push_file(1, Shared::new(alloc, tokens)?);
+    for _ in 0..200_000 {
+        input.end_file_after_line();
+        assert!(rt; takes(&mut input, b"x")?);
+    }
+    assert!(rt; takes(&mut input, b"/.#")?);
+    Ok(())
+}

@@ -89,7 +89,8 @@ fn items(rt: HostRuntime) -> Result<(), Fail> {
 
 #[test]
 fn an_item_with_text(rt: HostRuntime) -> Result<(), Fail> {
-    match Item::of(2, &Token::Text(text(rt.alloc())?))? {
+    let item = Item::of(2, &Token::Text(text(rt.alloc())?))?;
+    match &item {
         Item::Text(bytes) if bytes.as_slice() == b"ab".as_slice() => Ok(()),
         _ => Err(Fail::new("no text")),
     }
