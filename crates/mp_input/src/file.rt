@@ -5,7 +5,7 @@ ghost use Rattle.mp_values.specs.Items.{file_items};
 ghost use Rattle.mp_values.specs.declared.turn.Pending.{Pending};
 ghost use Rattle.mp_input.specs.Files.{is_line, line_of};
 ghost use Rattle.mp_input.specs.Lines.{items_pending, first_line, end_file_after_line};
-ghost use Rattle.mp_input.specs.Taken.{TakenFrom};
+ghost use Rattle.mp_input.specs.Taken.{TakenFrom, last_item};
 
 use mp_report::Place;
 use mp_scaled::{NoMemory, Shared};
@@ -91,16 +91,20 @@ impl FileRest {
         }
     }
 
-    /// The first item that is left.
+    /// The first item that is left. An end of a line becomes the last one that was taken.
     #[tactic(auto, using(crate::proofs::CutLemmas::cut_next))]
-    pub(crate) fn take(&mut self) -> Result<Option<Item>, NoMemory>
-        ensures { TakenFrom self.old result self.new }
+    pub(crate) fn take(&mut self, last: &mut Place) -> Result<Option<Item>, NoMemory>
+        ensures taken { TakenFrom self.old result self.new }
+        ensures last { last.new ≡ last_item result last.old }
     {
         if self.ended {
             Ok(None)
         } else if self.at < self.end {
             let item = Item::of(self.file, &self.tokens.get().as_slice()[self.at])?;
             self.at += 1;
+            if let Item::LineEnd(place) = &item {
+                *last = *place;
+            }
             Ok(Some(item))
         } else {
             self.ended = true;

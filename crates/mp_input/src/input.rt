@@ -9,7 +9,7 @@ ghost use Rattle.mp_values.specs.declared.turn.Pending.TheVariants.{Item as Pend
 ghost use Rattle.mp_input.specs.Entries.{entry_items, left_of, IsPlain, AllPlain};
 ghost use Rattle.mp_input.specs.Lines.{items_pending, place_in, end_file_after_line};
 ghost use Rattle.mp_input.specs.Search.{LineEntry, TurnEntry};
-ghost use Rattle.mp_input.specs.Taken.{TakenFrom};
+ghost use Rattle.mp_input.specs.Taken.{TakenFrom, last_taken};
 ghost use Rattle.mp_input.specs.Unread.{Takes, LeavesLoop};
 
 use crate::entry::Entry;
@@ -54,13 +54,14 @@ impl Model for Input {
 
 // Takes the first of what a stack of entries has left. Entries that are used up are taken off on the way.
 #[tactic(auto, using(crate::proofs::StackLemmas::left_of_dropped, crate::proofs::StackLemmas::left_of_kept, crate::proofs::StackLemmas::left_of_goes, crate::proofs::StackLemmas::all_plain_set_top, crate::proofs::StackLemmas::all_plain_take))]
-fn take_top(entries: &mut Vec<Entry>) -> Result<Option<Pending>, NoMemory>
+fn take_top(entries: &mut Vec<Entry>, last: &mut Place) -> Result<Option<Pending>, NoMemory>
     ensures taken { TakenFrom (left_of entries.old.items) result (left_of entries.new.items) }
+    ensures last { AllPlain entries.old.items → last.new ≡ last_taken result last.old }
     ensures plain { AllPlain entries.old.items → AllPlain entries.new.items }
 {
     'entries: while !entries.is_empty() {
         let top = entries.len() - 1;
-        match entries[top].take()? {
+        match entries[top].take(last)? {
             Some(taken) => return Ok(Some(taken)),
             None => {
                 entries.truncate(top);
@@ -136,11 +137,7 @@ impl Input {
     pub fn take(&mut self) -> Result<Option<Pending>, NoMemory>
         ensures { Takes self.old result self.new }
     {
-        let taken = take_top(&mut self.entries)?;
-        if let Some(Pending::Item(Item::LineEnd(place))) = &taken {
-            self.last = *place;
-        }
-        Ok(taken)
+        take_top(&mut self.entries, &mut self.last)
     }
 
     /// The place of an error: the first end of a line that is left, else the last that was taken.
