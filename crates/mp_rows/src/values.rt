@@ -147,19 +147,19 @@ fn stops_with_texts(rt: HostRuntime) -> Result<(), Fail> {
         &[
             (
                 Stop::not_built(alloc, b"a"),
-                "Refused(NotBuilt(Bytes { inner: [97] }))",
+                "Refused(NotBuilt(Listing { inner: [97] }))",
             ),
             (
                 Stop::unexpected(alloc, b"a", b"b"),
-                "Refused(Unexpected(Bytes { inner: [97] }, Bytes { inner: [98] }))",
+                "Refused(Unexpected(Listing { inner: [97] }, Listing { inner: [98] }))",
             ),
             (
                 Stop::wrong_type(alloc, b"a"),
-                "Refused(WrongType(Bytes { inner: [97] }))",
+                "Refused(WrongType(Listing { inner: [97] }))",
             ),
             (
                 Stop::not_known(alloc, b"a"),
-                "Refused(NotKnown(Bytes { inner: [97] }))",
+                "Refused(NotKnown(Listing { inner: [97] }))",
             ),
         ],
     )

@@ -2,7 +2,7 @@ use Rattle.std.proofs.Common.{w64, rules, sym}
 use Rattle.std.proofs.lemmas.Int.{to_z-of_z}
 use mir.Val.{SFits}
 use Rattle.mp_trig.proofs.SineLemmas.{sine_after-none, sine_step, within_start}
-use Rattle.mp_trig.proofs.sines.eighth_point.Goals as goal
+use Rattle.mp_trig.proofs.sines.octant_point.Goals as goal
 
 pub loop-n-init : goal.loop-n-init
 loop-n-init c = record { same = sym (sine_after-none _); near = within_start }
