@@ -2,10 +2,10 @@ use Rattle.std.proofs.Common.{◌≡◌, ◌<◌, None, length, get_or, [], ◌�
 use Rattle.std.proofs.lemmas.List.{get_or_default}
 use Rattle.std.proofs.lemmas.List.Sums.{fold-append}
 use Rattle.std.proofs.lemmas.List.Elements.{All-head, All-tail}
-use Rattle.mp_solver.specs.Places.{IsListedFor}
-use Rattle.mp_solver.specs.Ready.{with_change}
+use Rattle.mp_solver.specs.Storage.Rows.{IsListedFor}
+use Rattle.mp_solver.specs.Storage.Changes.{with_change}
 use Rattle.mp_solver.proofs.EliminationLemmas.{length-fold-with_change}
-use Rattle.mp_solver.proofs.PlaceLemmas.{AreListed-with_form, listed_in}
+use Rattle.mp_solver.proofs.RowLemmas.{AreListed-with_form, listed_in}
 use Rattle.mp_solver.proofs.change.apply.Goals as goal
 use Rattle.mp_solver.proofs.change.apply.Goals.{then-not-add_terms, else-not-add_terms}
 
@@ -39,7 +39,7 @@ changes-preserved-after-not-add_terms c =
     record {
       states = ap (λ s. with_change s change) c.changes.invariant.states ∙ sym (fold-append with_change states c.changes.yielded (change ∷ []));
       within = All-tail (λ change. change.index < length states) change c.next.new.self.rest.items rest;
-      lists = added.keeps.same_length ∙ c.changes.invariant.lists;
+      lists = added.stays.same_length ∙ c.changes.invariant.lists;
       listed = λ all listed.
           elim c.if-not-add_terms.branch [
             | then-not-add_terms w ↦ absurd cc
@@ -47,7 +47,7 @@ changes-preserved-after-not-add_terms c =
                 let so_far = c.changes.invariant.listed (sym w.all-is ∙ all) listed in
                 let old : IsListedFor c.changes.holders.items change.index c.terms_of.result.now = rw (c.terms_of.ensures) (listed_in c.changes.states.items c.changes.holders.items change.index c.index.result.now so_far state_is) in
                 let new : IsListedFor c.add_terms.new.holders.items change.index c.terms.result.now = added.added (search rules) old in
-                AreListed-with_form c.changes.states.items c.changes.holders.items c.add_terms.new.holders.items change.index change.form within added.keeps (rw (c.terms.ensures.same) at new) so_far
+                AreListed-with_form c.changes.states.items c.changes.holders.items c.add_terms.new.holders.items change.index change.form within added.stays (rw (c.terms.ensures.same) at new) so_far
           ];
     }
 
@@ -65,7 +65,7 @@ changes-preserved c =
     record {
       states = ap (λ s. with_change s change) c.changes.invariant.states ∙ sym (fold-append with_change states c.changes.yielded (change ∷ []));
       within = All-tail (λ change. change.index < length states) change c.next.new.self.rest.items rest;
-      lists = added.keeps.same_length ∙ c.changes.invariant.lists;
+      lists = added.stays.same_length ∙ c.changes.invariant.lists;
       listed = λ all listed.
           elim c.if-not-add_terms.branch [
             | then-not-add_terms w ↦ absurd cc
@@ -73,6 +73,6 @@ changes-preserved c =
                 let so_far = c.changes.invariant.listed (sym w.all-is ∙ all) listed in
                 let old : IsListedFor c.changes.holders.items change.index c.terms_of.result.now = rw (c.terms_of.ensures) (listed_in c.changes.states.items c.changes.holders.items change.index c.index.result.now so_far state_is) in
                 let new : IsListedFor c.add_terms.new.holders.items change.index c.terms.result.now = added.added (search rules) old in
-                AreListed-with_form c.changes.states.items c.changes.holders.items c.add_terms.new.holders.items change.index change.form within added.keeps (rw (c.terms.ensures.same) at new) so_far
+                AreListed-with_form c.changes.states.items c.changes.holders.items c.add_terms.new.holders.items change.index change.form within added.stays (rw (c.terms.ensures.same) at new) so_far
           ];
     }

@@ -1,7 +1,7 @@
 use Rattle.std.proofs.Common.{◌≡◌, ◌<◌, true, length}
 use Rattle.std.specs.List.{All, fold}
-use Rattle.mp_solver.specs.Places.{AreListed}
-use Rattle.mp_solver.specs.Ready.{with_change}
+use Rattle.mp_solver.specs.Storage.Rows.{AreListed}
+use Rattle.mp_solver.specs.Storage.Changes.{with_change}
 use Rattle.mp_solver.proofs.change.apply.Given as goal
 
 abbrev pub invariant-changes : goal.invariant-changes
