@@ -8,7 +8,8 @@ use mp_scaled::NoMemory;
 use std::alloc::Global;
 use std::marker::Model;
 
-/// Rows of forms, which contracts see as a list. A row may stand there twice.
+/// The rows of forms, which contracts see as a list: a row is the index of the state that has the form. A row may
+/// stand there twice.
 #[derive(Drop)]
 pub struct Rows {
     rows: Vec<usize>,

@@ -116,7 +116,7 @@ impl System {
         self.names[serial as usize - 1] = None;
     }
 
-    /// The name that an unknown was added with, and none where it was taken away.
+    /// The name that an unknown was made with, and none where it was taken away.
     pub fn name(&self, serial: u32) -> Option<&[u8]>
         requires { IsSerial self.now.unknowns.states serial }
         ensures { option_copied result ≡ name_of self.now.unknowns serial }
@@ -127,7 +127,7 @@ impl System {
         }
     }
 
-    /// The number of unknowns and of accepted equations, each of which added an unknown dependent.
+    /// The number of unknowns and of accepted equations, each of which made an unknown dependent.
     pub fn changes(&self) -> u64
         ensures { result ≡ length self.now.unknowns.states + length (forms_in self.now.unknowns.states) }
     {
