@@ -11,6 +11,7 @@ pub mod Examples
 pub mod JudgedLemmas
 pub mod ReducedLemmas
 pub mod RowLemmas
+pub mod AppliedLemmas
 pub mod VisitLemmas
 pub mod LimitLemmas
 pub mod ReplayLemmas

@@ -29,9 +29,7 @@ pub fn apply(
     let mut all = true;
     'changes: for change in changes {
         let Change { index, form } = change;
-        if !add_terms(holders, index, terms_of(&states[index]), form.terms()) {
-            all = false;
-        }
+        all &= add_terms(holders, index, terms_of(&states[index]), form.terms());
         states[index] = Some(form);
     }
     all
