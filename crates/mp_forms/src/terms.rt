@@ -101,16 +101,16 @@ pub fn stands_before(serial: u32, terms: &[Term]) -> bool
 }
 
 /// The terms with one more before them, but where its coefficient is too small to stay.
-pub fn with_first(
-    terms: Vec<Term>,
-    serial: u32,
-    coefficient: i64,
-) -> Result<Vec<Term>, NoMemory>
+pub fn with_first(terms: Vec<Term>, serial: u32, coefficient: i64) -> Result<Vec<Term>, NoMemory>
     ensures { IfOk result (λ all. all.items ≡ lone_term serial coefficient ++ terms.items) }
 {
+    let first = Term {
+        serial,
+        coefficient,
+    };
     let mut all = terms;
     if coefficient.unsigned_abs() >= LEAST_LONE {
-        all.insert(0, Term { serial, coefficient })?;
+        all.insert(0, first)?;
     }
     Ok(all)
 }

@@ -17,7 +17,7 @@ use Rattle.mp_solver.specs.Elimination.{pivot_of, solved_for, replaced, solved_s
 use Rattle.mp_solver.specs.Ready.{IsResidual}
 use Rattle.mp_solver.specs.Storage.Changes.{with_change, IsReady}
 use Rattle.mp_solver.proofs.EliminationLemmas.{list_any-set, term_count-set, slot_within, slot_empty, pivot_within, new_small as small_terms}
-use Rattle.mp_solver.proofs.SubstitutionLemmas.{IsTally}
+use Rattle.mp_solver.specs.Storage.Tally.{IsTally}
 
 module _ (states : States) (residual : LinearForm) (is : IsResidual states residual) (pivot : Term) (found : pivot_of residual.terms ≡ Some pivot) where
   abbrev new : LinearForm

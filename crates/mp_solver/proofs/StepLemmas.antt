@@ -1,9 +1,9 @@
 -- One step of the loop over the states, from what is added of the form there; and what reduced forms are added of.
-use Rattle.std.proofs.Common.{◌≡◌, ℕ, ◌+◌, ◌-◌, ◌<◌, ◌≤◌, ◌^◌, min, unsigned_abs, Bool, true, false, ◌||◌, cond, ltb, ℤ, ◌+ℤ◌, List, [], ◌∷◌, ◌++◌, Option, Some, None, Result, Ok, Err, zero, suc, map, length, get_or, take, drop, refl, sym, ap, ◌∙◌, subst}
+use Rattle.std.proofs.Common.{◌≡◌, ℕ, ◌+◌, ◌-◌, ◌<◌, ◌≤◌, ◌^◌, min, unsigned_abs, Bool, true, false, ◌||◌, cond, ltb, leb, inl, inr, ℤ, ◌+ℤ◌, List, [], ◌∷◌, ◌++◌, Option, Some, None, Result, Ok, Err, zero, suc, map, length, get_or, take, drop, refl, sym, ap, ◌∙◌, subst}
 use Rattle.std.specs.List.{All, list_any, filter, fold}
 use Rattle.std.specs.Option.{option_map, is_none}
 use Rattle.std.specs.Result.{IfOk}
-use Rattle.std.proofs.lemmas.Bool.{lt-leb}
+use Rattle.std.proofs.lemmas.Bool.{cases_lt, lt-leb, le-leb}
 use Rattle.std.proofs.lemmas.List.{take-append-drop}
 use Rattle.std.proofs.lemmas.List.Folds.{list_any-append, list_any_none}
 use Rattle.std.proofs.lemmas.List.Elements.{filter_map-append, All-nil, All-cons, All-head, All-tail, All-filter}
@@ -25,7 +25,8 @@ use Rattle.mp_solver.specs.Solved.{IsReduced, IsSolvedForm, IsSolved}
 use Rattle.mp_solver.specs.Ready.{IsResidual}
 use Rattle.mp_solver.proofs.ReducedLemmas.{reduce_of_reduced}
 use Rattle.mp_solver.proofs.TermLists.{Each, Each-sum_terms}
-use Rattle.mp_solver.proofs.SubstitutionLemmas.{Says, says, IsTally, IsTally-unchanged, IsTally-changed, IsTally-beyond, IsTally-overflows, any_next}
+use Rattle.mp_solver.specs.Storage.Tally.{IsTally}
+use Rattle.mp_solver.proofs.SubstitutionLemmas.{Says, says, IsTally-unchanged, IsTally-changed, IsTally-beyond, IsTally-overflows, any_next}
 
 -- what holds of all forms holds of the form of one unknown
 pub holds-at : (P : LinearForm → Type 0) (states : States) (i : ℕ) (p : LinearForm) → All P (forms_in states) → get_or states i None ≡ Some p → P p
@@ -70,15 +71,22 @@ module _ (states : States) (solved : IsSolved states) (serial : ℕ) (new : Line
       IsTally-unchanged states serial new i changes overflows unchanged added so_far at form some (said_of Absent same) small.0 small.1
 
   module _ (f : LinearForm) (less more : ℕ) (same : answer ≡ Changed f) (fewer : less ≡ unchanged - length form.terms) (count : more ≡ min (added + length f.terms) 4000001) where
-    pub step-changed : more ≤ 4000000 → IsTally states serial new (i + 1) (changes ++ record { index = i; form = f } ∷ []) overflows less more
+    step-changed : more ≤ 4000000 → IsTally states serial new (i + 1) (changes ++ record { index = i; form = f } ∷ []) overflows less more
     step-changed held =
         let now = said_of (Changed f) same in
         IsTally-changed states serial new i changes overflows unchanged added so_far at form some f less more now.0 (λ fits. now.1 (fits_new fits)) fewer count held
 
-    pub step-beyond : 4000000 < more → IsTally states serial new (i + 1) changes overflows less more
+    step-beyond : 4000000 < more → IsTally states serial new (i + 1) changes overflows less more
     step-beyond beyond =
         let now = said_of (Changed f) same in
         IsTally-beyond states serial new i changes overflows unchanged added so_far at form some f less more now.0 (λ fits. now.1 (fits_new fits)) fewer count beyond
+
+    pub step-counted : (next : List Change) → next ≡ cond (leb more 4000000) (changes ++ record { index = i; form = f } ∷ []) changes → IsTally states serial new (i + 1) next overflows less more
+    step-counted next is =
+        elim (cases_lt 4000000 more) [
+          | inl beyond ↦ rw (is, lt-leb more 4000000 beyond) (step-beyond beyond)
+          | inr held ↦ rw (is, le-leb more 4000000 held) (step-changed held)
+        ]
 
   pub step-overflows : answer ≡ Overflows → IsTally states serial new (i + 1) changes true unchanged added
   step-overflows same =

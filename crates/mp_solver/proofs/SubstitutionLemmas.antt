@@ -1,6 +1,6 @@
 -- The pivot's new form replaces it, form by form.
 use Rattle.std.proofs.Common.{◌≡◌, ℕ, ◌+◌, ◌-◌, ◌<◌, ◌≤◌, ◌^◌, min, ℤ, ◌+ℤ◌, unsigned_abs, Bool, true, false, ◌||◌, cond, leb, ltb, List, [], ◌∷◌, ◌++◌, Option, Some, None, Ok, Err, zero, suc, map, length, get_or, set, take, drop, refl, sym, ap, ◌∙◌, subst, arith}
-use Rattle.std.specs.List.{All, list_any, sum_by, fold}
+use Rattle.std.specs.List.{list_any, sum_by, fold}
 use Rattle.std.specs.Option.{option_map}
 use Rattle.std.proofs.lemmas.Bool.{ltb-true, ltb-false, le-leb, leb-true}
 use Rattle.std.proofs.lemmas.List.{take_more, drop_more, take_all, drop_all, append-nil, length-map, append_assoc, length-take-le}
@@ -19,6 +19,7 @@ use Rattle.mp_solver.specs.States.{States}
 use Rattle.mp_solver.specs.Elimination.{without, term_of, replaced, replaced_term, forms_in, has_large_coefficient, has_large_constant, term_count}
 use Rattle.mp_solver.specs.Storage.Solution.{replaced_sum, replacement_of}
 use Rattle.mp_solver.specs.Storage.Changes.{with_change}
+use Rattle.mp_solver.specs.Storage.Tally.{IsCount, IsTally}
 
 module _ (serial : ℕ) (new : LinearForm) (k : ℤ) (overflows : Bool) (same : overflows ≡ false → k ≡ new.constant) where
   -- the new form as it is held
@@ -114,25 +115,6 @@ set-seam [] ys old y zero is = refl
 set-seam [] ys old y (suc i) is = absurd (omega (arith, is))
 set-seam (x ∷ xs) ys old y zero is = absurd (omega (arith, is))
 set-seam (x ∷ xs) ys old y (suc i) is = ap (λ zs. x ∷ zs) (set-seam xs ys old y i (omega (arith, is)))
-
--- how many terms there are, where the first so many forms are new: those of the forms that are unchanged, and those of
--- the new ones, which are counted to the limit alone
-pub record IsCount (new : LinearForm) (unchanged added total : ℕ) : Type 0 where
-  pub changed : ℕ
-  pub added_is : added ≡ min (length new.terms + changed) 4000001
-  pub total_is : unchanged + changed ≡ total
-
--- how far the replacement has come: to the form at i, with these changes, an overflow or none, and so many terms.
--- Beyond the limit of terms the changes are not held any more
-pub record IsTally (states : States) (serial : ℕ) (new : LinearForm) (i : ℕ) (changes : List Change) (overflows : Bool) (unchanged added : ℕ) : Type 0 where
-  pub small : list_any has_large_coefficient (forms_in (take i (map (option_map (replaced serial new)) states))) ≡ false
-  pub overflow : overflows ≡ (has_large_constant new || list_any has_large_constant (forms_in (take i (map (option_map (replaced serial new)) states))))
-  pub applied : overflows ≡ false → added ≤ 4000000 → fold with_change states changes ≡ take i (map (option_map (replaced serial new)) states) ++ drop i states
-  pub counted : overflows ≡ false → IsCount new unchanged added (term_count (take i (map (option_map (replaced serial new)) states)) + term_count (drop i states))
-  pub rest : term_count (drop i states) ≤ unchanged
-  pub few : unchanged ≤ 4000000
-  pub bounded : added ≤ 4000001
-  pub within : All (λ change. change.index < length states) changes
 
 stays_by : (a b : Bool) → (a ≡ false → b ≡ false) → a ≡ (a || b)
 stays_by true b none = refl

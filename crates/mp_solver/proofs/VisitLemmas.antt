@@ -10,7 +10,8 @@ use Rattle.mp_solver.specs.States.{States}
 use Rattle.mp_solver.specs.Elimination.{term_of, replaced, replaced_term}
 use Rattle.mp_solver.specs.Solved.{IsSolvedForm, IsSolved}
 use Rattle.mp_solver.specs.Storage.Rows.{IsWithout, AreHolders}
-use Rattle.mp_solver.proofs.SubstitutionLemmas.{IsTally, IsTally-past, IsTally-none, IsTally-unchanged}
+use Rattle.mp_solver.specs.Storage.Tally.{IsTally}
+use Rattle.mp_solver.proofs.SubstitutionLemmas.{IsTally-past, IsTally-none, IsTally-unchanged}
 use Rattle.mp_solver.proofs.StepLemmas.{holds-at, small_form}
 
 term_of-none : (serial : ℕ) (ts : List Term) → All (λ t. t.serial ≡ serial → ⊥) ts → term_of serial ts ≡ None

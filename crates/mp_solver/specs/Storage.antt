@@ -3,3 +3,4 @@ pub mod Counts
 pub mod Rows
 pub mod Changes
 pub mod Solution
+pub mod Tally

@@ -16,11 +16,7 @@ pub struct Change {
 }
 
 /// Gives each form to its state, and adds its row for the unknowns in it. Says whether there was room for all.
-pub fn apply(
-    states: &mut Vec<Option<Form>>,
-    holders: &mut Vec<Rows>,
-    changes: Vec<Change>,
-) -> bool
+pub fn apply(states: &mut Vec<Option<Form>>, holders: &mut Vec<Rows>, changes: Vec<Change>) -> bool
     requires { All (λ change. change.index < length states.old.items) changes.items }
     ensures states { states.new.items ≡ fold with_change states.old.items changes.items }
     ensures holders { length holders.new.items ≡ length holders.old.items }

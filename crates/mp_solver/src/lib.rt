@@ -16,6 +16,7 @@ mod rows;
 mod solution;
 mod state;
 mod system;
+mod tally;
 mod view;
 
 pub use equated::Equated;

@@ -1,6 +1,6 @@
 //! All unknowns, and what is known of them.
 
-ghost use Rattle.std.specs.Prelude.{ℤ, ◌≡◌, ◌≢◌, ◌↔◌, ◌+◌, ◌<◌, ◌≤◌, ◌^◌, min, [], None, length, slice_index_or, option_copied, IfOk, OnErr, IsTrue};
+ghost use Rattle.std.specs.Prelude.{ℤ, ◌≡◌, ◌≢◌, ◌↔◌, ◌+◌, ◌<◌, ◌≤◌, [], None, length, slice_index_or, option_copied, IfOk, OnErr, IsTrue};
 ghost use Rattle.mp_solver.specs.States.{form_of, name_of, unnamed, fresh_of, IsSerial, IsOver};
 ghost use Rattle.mp_solver.specs.Known.{form_in};
 ghost use Rattle.mp_solver.specs.Reduction.{independent_part, reduce_of};
@@ -8,13 +8,15 @@ ghost use Rattle.mp_solver.specs.Elimination.{forms_in, eliminate, pivot_of, sol
 ghost use Rattle.mp_solver.specs.Solved.{IsReduced, IsSolved};
 ghost use Rattle.mp_solver.specs.Storage.Solution.{IsSolution};
 ghost use Rattle.mp_solver.specs.Storage.Rows.{AreHolders};
+ghost use Rattle.mp_solver.specs.Storage.Tally.{IsWholeTally};
 ghost use Rattle.mp_solver.specs.Ready.{prepared, IsResidual};
 
 use crate::change::{Change, apply};
+use crate::limits::{TERM_LIMIT, UNKNOWN_LIMIT};
 use crate::rows::{Rows, all_rows, make_room};
 use crate::solution::{Replacement, Solution, judged, pivot_of, solved_for, with_replaced};
+use crate::tally::Tally;
 use crate::{Equated, FormView, Fresh, State};
-use crate::limits::{TERM_LIMIT, UNKNOWN_LIMIT};
 use mp_forms::{Form, FormFault, terms_stay_in_order};
 use mp_pool::Term;
 use mp_scaled::{Bytes, NoMemory};
@@ -208,7 +210,11 @@ impl System {
     }
 
     /// The same of a form that is given up for it: where that is up to date already, it is handed back.
-    pub fn reduce_owned(&self, alloc: Global, form: Form) -> Result<Result<Form, FormFault>, NoMemory>
+    pub fn reduce_owned(
+        &self,
+        alloc: Global,
+        form: Form,
+    ) -> Result<Result<Form, FormFault>, NoMemory>
         requires { IsOver self.now.unknowns.states form }
         ensures exact { IfOk result (λ answer. answer ≡ reduce_of self.now.unknowns.states form) }
         ensures unchanged { IsReduced self.now.unknowns.states form → IfOk result (λ answer. answer ≡ Ok form) }
@@ -353,45 +359,55 @@ impl System {
         ensures { IfOk result (λ ready. ready ≡ record { residual = residual.now; unknowns = self.now.unknowns }) }
     {
         let rows = self.rows_of(alloc, pivot.serial)?;
-        let mut changes = Vec::new(alloc);
-        let mut overflows = solution.overflows;
-        let mut unchanged = self.terms;
-        let mut added = limited(0, solution.form.terms().len());
+        let mut tally = Tally::new(alloc, self.terms, &solution.form, solution.overflows);
         'rows: for row in &rows {
             if let Some(old) = self.form_at(*row) {
                 match with_replaced(alloc, pivot.serial, &solution.form, old)? {
                     Replacement::Absent => {}
-                    Replacement::Changed(form) => {
-                        unchanged -= old.terms().len();
-                        added = limited(added, form.terms().len());
-                        // Beyond the limit no change is made, and only the answer is looked for.
-                        if added <= TERM_LIMIT {
-                            changes.push(Change { index: *row, form })?;
-                        }
-                    }
-                    Replacement::Overflows => overflows = true,
+                    Replacement::Changed(form) => tally.change(*row, old.terms().len(), form)?,
+                    Replacement::Overflows => tally.overflows = true,
                     Replacement::TooLarge => {
                         return Ok(self.refused(alloc, residual, Equated::CoefficientTooLarge));
                     }
                 }
             }
         }
-        if overflows {
+        self.tallied(alloc, residual, pivot, solution.form, tally)
+    }
+
+    /// The answer, once the pivot's new form has replaced it in every form and no coefficient is too large.
+    fn tallied(
+        &self,
+        alloc: Global,
+        residual: &Form,
+        pivot: Term,
+        form: Form,
+        tally: Tally,
+    ) -> Result<Ready, NoMemory>
+        requires residual { IsResidual self.now.unknowns.states residual.now }
+        requires pivot { pivot_of residual.now.terms ≡ Some pivot }
+        requires tally { IsWholeTally self.now.unknowns.states pivot.serial (solved_for pivot residual.now)
+            form tally.changes.items tally.overflows tally.unchanged tally.added }
+        ensures { IfOk result (λ ready. ready ≡ record { residual = residual.now; unknowns = self.now.unknowns }) }
+    {
+        if tally.overflows {
             return Ok(self.refused(alloc, residual, Equated::Overflow));
         }
-        if unchanged + added > TERM_LIMIT {
+        let terms = tally.unchanged + tally.added;
+        if terms > TERM_LIMIT {
             return Ok(self.refused(alloc, residual, Equated::Limit));
         }
+        let mut changes = tally.changes;
         changes.push(Change {
             index: pivot.serial as usize - 1,
-            form: solution.form,
+            form,
         })?;
         Ok(Ready {
             residual: Snapshot::of(residual),
             system: Snapshot::of(self),
             answer: Equated::Accepted,
             changes,
-            terms: unchanged + added,
+            terms,
         })
     }
 
@@ -440,13 +456,4 @@ impl System {
             terms: 0,
         }
     }
-}
-
-/// A sum of numbers of terms, but no more than one above the limit.
-fn limited(terms: usize, more: usize) -> usize
-    requires small { terms ≤ TERM_LIMIT + 1 }
-    requires fits { more < 2 ^ 63 }
-    ensures { result ≡ min (terms + more) (TERM_LIMIT + 1) }
-{
-    (terms + more).min(TERM_LIMIT + 1)
 }
