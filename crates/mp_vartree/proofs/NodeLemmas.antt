@@ -9,8 +9,8 @@ use Rattle.std.specs.FinMap.{FinMap, IsAntisymmetric, get, empty, get-empty, ret
 use Rattle.std.specs.Map.{lookup, keys_of}
 use Rattle.std.specs.List.{AllByRecursion, IsDistinct}
 use Rattle.std.specs.Map.Calls.{RetainsPairs}
-use Rattle.mp_vartree.specs.Tree.{Grown, node_of, nodes_in}
-use Rattle.mp_vartree.specs.Children.{paths_of}
+use Rattle.mp_vartree.specs.Layout.Tree.{Grown, node_of, nodes_in}
+use Rattle.mp_vartree.specs.Layout.Children.{paths_of}
 use Rattle.mp_vartree.proofs.TreeLemmas.{ChangesChild, get-node_of, get-node_of-here, get-kept, tied, both_same, retain_steps}
 
 pub passed : {A B : Type 0} (f : A → B) (b : Bool) (x : A) (o : Option A) (p : Option B) → p ≡ option_map f o → cond b (Some (f x)) p ≡ option_map f (cond b (Some x) o)
@@ -59,42 +59,6 @@ module _ {K X : Type 0} (R : K → K → Ordering) (o : IsTotalOrder R) (same' :
         ∙ changed (is_eq (R k p)) w (lookup (λ q. is_eq (R p q)) children) ps ∙ ap (cond (is_eq (R k p)) (get (below w) ps)) (sym (get-behind held children p ps));
     before = λ ps. get-behind held children k ps ∙ get-below (lookup (λ p. is_eq (R k p)) children) ps;
   }
-
-  absent : (k : K) (es : List (K × Grown R X)) → AllByRecursion (λ q. eq_by_cmp R k q ≡ false) (keys_of es) → lookup (λ q. is_eq (R k q)) es ≡ None
-  absent k [] none = refl
-  absent k (e ∷ es) none = ap (λ b. cond b (Some e.1) (lookup (λ q. is_eq (R k q)) es)) none.0 ∙ absent k es none.1
-
-  -- a child that is kept or dropped, before others that were
-  one_kept : (b same t : Bool) (w v : Grown R X) (others others' : Option (Grown R X)) (k : K) (ps : List K)
-      → (b ≡ false → w.paths ≡ empty) → (same ≡ true → get w.paths ps ≡ cond t (get v.paths ps) None) → (same ≡ true → others ≡ None)
-      → option_and_then (λ g. get g.paths ps) others' ≡ cond t (option_and_then (λ g. get g.paths ps) others) None
-      → option_and_then (λ g. get g.paths ps) (cond b (cond same (Some w) others') others') ≡ cond t (option_and_then (λ g. get g.paths ps) (cond same (Some v) others)) None
-  one_kept true true t w v others others' k ps bare here none rest = here refl
-  one_kept true false t w v others others' k ps bare here none rest = rest
-  one_kept false true t w v others others' k ps bare here none rest =
-      rest ∙ ap (λ o. cond t (option_and_then (λ g. get g.paths ps) o) None) (none refl) ∙ sym (both_same t None)
-      ∙ sym (get-empty (slice_cmp R) ps) ∙ ap (λ m. get m ps) (sym (bare refl)) ∙ here refl
-  one_kept false false t w v others others' k ps bare here none rest = rest
-
-  pushed : (b : Bool) (q k : K) (w : Grown R X) (rest : List (K × Grown R X))
-      → lookup (λ k. is_eq (R q k)) (cond b ((k, w) ∷ rest) rest) ≡ cond b (cond (is_eq (R q k)) (Some w) (lookup (λ k. is_eq (R q k)) rest)) (lookup (λ k. is_eq (R q k)) rest)
-  pushed true q k w rest = refl
-  pushed false q k w rest = refl
-
-  -- a closure that keeps of each child the paths that pass, and drops none but bare children
-  pub retained_pairs : {F : Type 0} (T : F → K → Grown R X → Bool → Grown R X → F → Type 0) (f : F) (test : List K → Bool)
-      → ((k : K) (v : Grown R X) (b : Bool) (w : Grown R X) (f' : F) → T f k v b w f' → (b ≡ false → w.paths ≡ empty) × (w.paths ≡ retain_keys v.paths (λ ps. test (k ∷ ps))) × (f' ≡ f))
-      → (es kept : List (K × Grown R X)) → IsDistinct (eq_by_cmp R) (keys_of es) → RetainsPairs T f es kept → (q : K) (ps : List K)
-      → option_and_then (λ g. get g.paths ps) (lookup (λ k. is_eq (R q k)) kept) ≡ cond (test (q ∷ ps)) (option_and_then (λ g. get g.paths ps) (lookup (λ k. is_eq (R q k)) es)) None
-  unfolding IsDistinct
-  retained_pairs T f test each [] kept distinct r q ps = ap (λ es. option_and_then (λ g. get g.paths ps) (lookup (λ k. is_eq (R q k)) es)) r ∙ both_same (test (q ∷ ps)) None
-  retained_pairs {F} T f test each (e ∷ es) kept distinct (b, w, f', rest, t, r, is) q ps =
-      let one = each e.0 e.1 b w f' t in
-      let others = retained_pairs T f test each es rest distinct.1 (subst (λ s. RetainsPairs T s es rest) one.2 r) q ps in
-      ap (λ xs. option_and_then (λ g. get g.paths ps) (lookup (λ k. is_eq (R q k)) xs)) is ∙ ap (option_and_then (λ g. get g.paths ps)) (pushed b q e.0 w rest)
-      ∙ one_kept b (is_eq (R q e.0)) (test (q ∷ ps)) w e.1 (lookup (λ k. is_eq (R q k)) es) (lookup (λ k. is_eq (R q k)) rest) q ps one.0
-      (λ same. ap (λ m. get m ps) one.1 ∙ get-kept R o same' e.1.paths (λ ps. test (e.0 ∷ ps)) ps ∙ ap (λ k. cond (test (k ∷ ps)) (get e.1.paths ps) None) (sym (tied R o same' q e.0 same)))
-      (λ same. ap (λ p. lookup (λ k. is_eq (R p k)) es) (tied R o same' q e.0 same) ∙ absent e.0 es distinct.0) others
 
   -- where of each child those paths are kept that pass
   pub retained_children : (held held' : Option X) (children new : List (K × Grown R X)) (test : List K → Bool) → held' ≡ cond (test []) held None

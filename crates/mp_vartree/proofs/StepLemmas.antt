@@ -6,8 +6,8 @@ use Rattle.std.specs.Cmp.Lexicographic.{slice_cmp}
 use Rattle.std.specs.BTreeMap as map
 use Rattle.std.specs.BTreeMap.{get_by, is_at}
 use Rattle.std.specs.FinMap.{FinMap, get, insert, empty}
-use Rattle.mp_vartree.specs.Tree.{Grown, node_of}
-use Rattle.mp_vartree.specs.Children.{paths_of}
+use Rattle.mp_vartree.specs.Layout.Tree.{Grown, node_of}
+use Rattle.mp_vartree.specs.Layout.Children.{paths_of}
 use Rattle.mp_vartree.proofs.OrderLemmas.{Steps}
 use Rattle.mp_vartree.proofs.TreeLemmas.{ChangesChild, insert_below, insert_here, unchanged_below, tied}
 use Rattle.mp_vartree.proofs.NodeLemmas as node

@@ -12,7 +12,7 @@ use Rattle.mp_vartree.specs.Declarations.{kind_in, macro_in, first_macro, is_bel
 use Rattle.mp_vartree.specs.Variables.{Variables, no_variables, declared_at, macro_at, variable_at, with_declared, without, with_variable, forget, find_of, found_by, type_of, define, store_as, wanted_kind}
 use Rattle.mp_vartree.specs.Kinds.{kind_of, is_kind}
 use Rattle.mp_values.specs.declared.value.Value.{Value}
-use Rattle.mp_vartree.specs.Tags.{declarations_in, variables_in}
+use Rattle.mp_vartree.specs.Layout.Tags.{declarations_in, variables_in}
 use Rattle.mp_vartree.specs.declared.names.Part.{Part}
 use Rattle.mp_vartree.specs.declared.names.Part.TheVariants as part
 use Rattle.mp_vartree.specs.declared.names.Shape.{Shape}
@@ -58,7 +58,7 @@ macros_seen roots tags a = λ i pattern. macro_in (declared_seen roots tags a pa
 -- a pattern is defined in a tag
 pub defined : (roots : ℕ) (tags new : List (ℕ × Tag)) (a : ℕ) (tag tag' : Tag) (name : List Shape) (d : Declared) (below : Bool) → Some tag ≡ tag_at tags a
     → ((q : ℕ) → tag_at new q ≡ cond (is_eq (nat_cmp a q)) (Some tag') (tag_at tags q))
-    → tag'.declarations.paths ≡ insert tag.declarations.paths name d → tag'.variables.paths ≡ retain_keys tag.variables.paths (λ n. not (is_meant below name n))
+    → tag'.declarations.paths ≡ insert tag.declarations.paths name d → tag'.variables ≡ retain_keys tag.variables (λ n. not (is_meant below name n))
     → seen roots new ≡ without (with_declared (seen roots tags) (full_pattern a name) d) (is_meant below (full_pattern a name))
 defined roots tags new a tag tag' name d below was updates put kept =
     let declarations =
@@ -73,7 +73,7 @@ defined roots tags new a tag tag' name d below was updates put kept =
 -- a variable is put into a tag
 pub stored : (roots : ℕ) (tags new : List (ℕ × Tag)) (a : ℕ) (tag tag' : Tag) (name : List Part) (x : Variable) → Some tag ≡ tag_at tags a
     → ((q : ℕ) → tag_at new q ≡ cond (is_eq (nat_cmp a q)) (Some tag') (tag_at tags q))
-    → tag'.declarations.paths ≡ tag.declarations.paths → tag'.variables.paths ≡ insert tag.variables.paths name x
+    → tag'.declarations.paths ≡ tag.declarations.paths → tag'.variables ≡ insert tag.variables name x
     → seen roots new ≡ with_variable (seen roots tags) a name x
 stored roots tags new a tag tag' name x was updates same put =
     let declarations = ap entries (root.tag_kept by_shape shape_roots declarations_of a tags new (Some tag) (Some tag') was updates same) in
@@ -85,7 +85,7 @@ stored roots tags new a tag tag' name x was updates same put =
 -- a tag whose paths stay
 pub untouched : (roots : ℕ) (tags new : List (ℕ × Tag)) (a : ℕ) (tag tag' : Tag) → Some tag ≡ tag_at tags a
     → ((q : ℕ) → tag_at new q ≡ cond (is_eq (nat_cmp a q)) (Some tag') (tag_at tags q))
-    → tag'.declarations.paths ≡ tag.declarations.paths → tag'.variables.paths ≡ tag.variables.paths → seen roots new ≡ seen roots tags
+    → tag'.declarations.paths ≡ tag.declarations.paths → tag'.variables ≡ tag.variables → seen roots new ≡ seen roots tags
 untouched roots tags new a tag tag' was updates same same' =
     let declarations = ap entries (root.tag_kept by_shape shape_roots declarations_of a tags new (Some tag) (Some tag') was updates same) in
     let variables = ap entries (root.tag_kept by_part part_roots variables_of a tags new (Some tag) (Some tag') was updates same') in

@@ -36,7 +36,7 @@ pub struct Vars {
 impl Model for Vars {
     ghost use Rattle.std.specs.FinMap.{entries};
     ghost use Rattle.mp_vartree.specs.Variables.{Variables};
-    ghost use Rattle.mp_vartree.specs.Tags.{declarations_in, variables_in};
+    ghost use Rattle.mp_vartree.specs.Layout.Tags.{declarations_in, variables_in};
 
     ghost Value = { Variables };
 

@@ -15,7 +15,7 @@ returns-in-Some-first_macro c =
     let tag = ap option_copied (sym c.in-Some.is) ∙ c.get.ensures.value in
     let met = ap (option_map (λ m. (m.0.now, m.1))) (sym c.in-Some-first_macro.is) ∙ c.first_macro.ensures in
     rw (c.in_ok-share.ensures, ← c.self.view_is)
-    (ap (λ m. found_by m (get c.in-Some.tag.now.variables.paths c.args.name.now)) met ∙ sym (found_in c.self.inside.roots c.self.inside.tags.entries c.args.root c.args.name.now _ tag))
+    (ap (λ m. found_by m (get c.in-Some.tag.now.variables c.args.name.now)) met ∙ sym (found_in c.self.inside.roots c.self.inside.tags.entries c.args.root c.args.name.now _ tag))
 
 pub returns-in_ok-copy-in-Some-get : goal.returns-in_ok-copy-in-Some-get
 returns-in_ok-copy-in-Some-get c =
