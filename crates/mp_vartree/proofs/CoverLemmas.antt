@@ -5,7 +5,7 @@ use Rattle.std.specs.Ordering.{eq_by_cmp}
 use Rattle.std.specs.BTreeMap.{get_by}
 use Rattle.std.specs.FinMap.{FinMap, get, insert, empty, retain_keys, get-empty}
 use Rattle.mp_vartree.specs.Names.{shape_cmp, pattern_cmp, name_cmp}
-use Rattle.mp_vartree.specs.Layout.Tree.{Grown}
+use Rattle.mp_vartree.specs.Layout.Tree.{Child}
 use Rattle.mp_vartree.specs.Layout.Groups.{covers, group_with, with_name}
 use Rattle.mp_vartree.specs.declared.names.Part.{Part}
 use Rattle.mp_vartree.specs.declared.names.Shape.{Shape}
@@ -17,7 +17,7 @@ use Rattle.mp_vartree.proofs.StepLemmas as step
 use Rattle.mp_vartree.proofs.StepLemmas.{without_child}
 
 abbrev pub Children : Type 0 → Type 0
-Children X = BTreeMap Shape (Grown shape_cmp X)
+Children X = BTreeMap Shape (Child shape_cmp X)
 
 -- the patterns that are left
 abbrev pub is_left : Bool → List Shape → List Shape → Bool
@@ -30,7 +30,7 @@ module _ {X : Type 0} where
   abbrev pub tree : Option X → Children X → FinMap pattern_cmp X
   tree held children = step.node_at by_shape held children
 
-  abbrev pub below : Option (Grown shape_cmp X) → FinMap pattern_cmp X
+  abbrev pub below : Option (Child shape_cmp X) → FinMap pattern_cmp X
   below child = step.below by_shape child
 
   -- nothing is left below the empty pattern
@@ -42,7 +42,7 @@ module _ {X : Type 0} where
   here_removed held children = node.retained_children shape_cmp by_shape.total by_shape.only held None children.entries children.entries (is_left false []) refl (λ q ps. refl)
 
   -- behind a shape
-  pub child_removed : (held : Option X) (old new : Children X) (s : Shape) (before w : Option (Grown shape_cmp X)) (below_too : Bool) (rest : List Shape)
+  pub child_removed : (held : Option X) (old new : Children X) (s : Shape) (before w : Option (Child shape_cmp X)) (below_too : Bool) (rest : List Shape)
       → before ≡ get_by (by_shape.derived s) old → step.Updated by_shape old new s w → below w ≡ retain_keys (below before) (is_left below_too rest)
       → tree held new ≡ retain_keys (tree held old) (is_left below_too (s ∷ rest))
   child_removed held old new s before w below_too rest was updates is =
@@ -58,8 +58,8 @@ module _ {X : Type 0} where
       (sym (retain_empty shape_cmp by_shape.total by_shape.only (is_left below_too rest)))
 
   -- a child in which nothing stands is dropped
-  pub pruned : (held : Option X) (old new : Children X) (s : Shape) (child : Grown shape_cmp X)
-      → Some child ≡ get_by (by_shape.derived s) old → step.Updated by_shape old new s None → child.paths ≡ empty → tree held new ≡ tree held old
+  pub pruned : (held : Option X) (old new : Children X) (s : Shape) (child : Child shape_cmp X)
+      → Some child ≡ get_by (by_shape.derived s) old → step.Updated by_shape old new s None → child.value.paths ≡ empty → tree held new ≡ tree held old
   pruned held old new s child was updates bare =
       unchanged_below shape_cmp by_shape.total by_shape.only s (tree held old) (tree held new) (below (Some child)) (below None)
       (step.changed by_shape held old new s (Some child) None was updates) (sym bare)
@@ -77,12 +77,12 @@ module _ {X : Type 0} where
   no_group_here children name x = ap (λ o. group_with (tree None children) [] o name x) (sym (step.at_node by_shape None children))
 
   -- in a group behind a shape
-  pub group_behind : (held : Option (FinMap name_cmp X)) (old new : Children (FinMap name_cmp X)) (s : Shape) (before : Option (Grown shape_cmp (FinMap name_cmp X))) (child : Grown shape_cmp (FinMap name_cmp X))
+  pub group_behind : (held : Option (FinMap name_cmp X)) (old new : Children (FinMap name_cmp X)) (s : Shape) (before : Option (Child shape_cmp (FinMap name_cmp X))) (child : Child shape_cmp (FinMap name_cmp X))
       (rest : List Shape) (name : List Part) (x : X) → before ≡ get_by (by_shape.derived s) old → step.Updated by_shape old new s (Some child)
-      → child.paths ≡ with_name (below before) rest name x → tree held new ≡ with_name (tree held old) (s ∷ rest) name x
+      → child.value.paths ≡ with_name (below before) rest name x → tree held new ≡ with_name (tree held old) (s ∷ rest) name x
   group_behind held old new s before child rest name x was updates is =
       let there = (step.changed by_shape held old new s before (Some child) was updates).before rest in
-      elim (get (below before) rest) as (λ o. get (below before) rest ≡ o → child.paths ≡ group_with (below before) rest o name x → tree held new ≡ with_name (tree held old) (s ∷ rest) name x) [
+      elim (get (below before) rest) as (λ o. get (below before) rest ≡ o → child.value.paths ≡ group_with (below before) rest o name x → tree held new ≡ with_name (tree held old) (s ∷ rest) name x) [
         | None ↦ λ none put.
             step.kept by_shape held old new s before child was updates put ∙ ap (λ o. group_with (tree held old) (s ∷ rest) o name x) (sym (there ∙ none))
         | Some g ↦ λ some put.

@@ -21,7 +21,7 @@ use Rattle.std.proofs.lemmas.Map.Entries.{place_from_lookup, lookup_from_place}
 use Rattle.std.proofs.lemmas.Map.Keys.{IsDistinct-from_sorted}
 use Rattle.mp_pool.specs.declared.Term.{Term}
 use Rattle.mp_vartree.specs.Names.{name_cmp, shape_cmp, pattern_cmp, is_meant, pattern_of}
-use Rattle.mp_vartree.specs.Layout.Tree.{Grown, nodes_in}
+use Rattle.mp_vartree.specs.Layout.Tree.{Child, nodes_in}
 use Rattle.mp_vartree.specs.Layout.Groups.{covers, listed, by_names, all_names, AreGrouped}
 use Rattle.mp_vartree.specs.Variables.{made_for, made_for_any}
 use Rattle.mp_vartree.specs.Layout.Gathered.{has, Occurs, Gathers, InVariable, InGroup}
@@ -60,11 +60,11 @@ abbrev pub Groups : Type 0
 Groups = FinMap pattern_cmp Names
 
 abbrev pub Children : Type 0
-Children = List (Shape × Grown shape_cmp Names)
+Children = List (Shape × Child shape_cmp Names)
 
 -- an unknown was made for a variable of one of the first children
 abbrev pub OccursBefore : ℕ → Children → ℕ → Type 0
-OccursBefore i es n = (j : ℕ) × (j < i) × (k : Shape) × (c : Grown shape_cmp Names) × (slice_get es j ≡ Some (k, c)) × Occurs InGroup c.paths (covers true []) n
+OccursBefore i es n = (j : ℕ) × (j < i) × (k : Shape) × (c : Child shape_cmp Names) × (slice_get es j ≡ Some (k, c)) × Occurs InGroup c.value.paths (covers true []) n
 
 -- the same as `Gathers`, for the first children
 pub record GathersBefore (i : ℕ) (old new : List ℕ) (es : Children) : Type 0 where
@@ -83,8 +83,8 @@ same_entry : {A : Type 0} (x y : A) → Some x ≡ Some y → x ≡ y
 same_entry x y e = ap (λ o. unwrap_or o x) e
 
 -- one more child
-pub next_child : (i : ℕ) (old mid new : List ℕ) (es : Children) (k : Shape) (c : Grown shape_cmp Names) → slice_get es i ≡ Some (k, c)
-    → GathersBefore i old mid es → Gathers InGroup mid new c.paths (covers true []) → GathersBefore (i + 1) old new es
+pub next_child : (i : ℕ) (old mid new : List ℕ) (es : Children) (k : Shape) (c : Child shape_cmp Names) → slice_get es i ≡ Some (k, c)
+    → GathersBefore i old mid es → Gathers InGroup mid new c.value.paths (covers true []) → GathersBefore (i + 1) old new es
 next_child i old mid new es k c place before one = record {
   stays = λ n h. one.stays n (before.stays n h);
   all = λ n o.
@@ -92,7 +92,7 @@ next_child i old mid new es k c place before one = record {
         | inl less ↦ one.stays n (before.all n (o.0, less, o.2, o.3, o.4, o.5))
         | inr same ↦
             let e : (o.2, o.3) ≡ (k, c) = same_entry (o.2, o.3) (k, c) (sym o.4 ∙ ap (slice_get es) same ∙ place) in
-            one.all n (subst (λ e. Occurs InGroup e.1.paths (covers true []) n) e o.5)
+            one.all n (subst (λ e. Occurs InGroup e.1.value.paths (covers true []) n) e o.5)
       ];
   only = λ n h.
       elim (one.only n h) [
@@ -157,18 +157,18 @@ gathers_no_child ns paths below s rest behind = record {
 }
 
 module _ (paths : Groups) (es : Children)
-    (behind : (p : Shape) (ps : List Shape) → get paths (p ∷ ps) ≡ option_and_then (λ c. get c.paths ps) (lookup (λ k. is_eq (shape_cmp p k)) es))
+    (behind : (p : Shape) (ps : List Shape) → get paths (p ∷ ps) ≡ option_and_then (λ c. get c.value.paths ps) (lookup (λ k. is_eq (shape_cmp p k)) es))
     (distinct : IsDistinct (eq_by_cmp shape_cmp) (keys_of es)) where
   to_child : (n : ℕ) (p : Shape) (ps : List Shape) (x : Names) → get paths (p ∷ ps) ≡ Some x → InGroup x n → OccursBefore (length es) es n
   to_child n p ps x there is_in =
-      let child = through_child (λ c. get c.paths ps) (lookup (λ k. is_eq (shape_cmp p k)) es) x (sym (behind p ps) ∙ there) in
+      let child = through_child (λ c. get c.value.paths ps) (lookup (λ k. is_eq (shape_cmp p k)) es) x (sym (behind p ps) ∙ there) in
       let place = place_from_lookup (λ k. is_eq (shape_cmp p k)) es child.0 child.1 in
       (place.0, slice_get_within es place.0 (place.1, child.0) place.2, place.1, child.0, place.2, (ps, x, child.2, covers_all ps, is_in))
 
   from_child : (n : ℕ) → OccursBefore (length es) es n → Occurs InGroup paths (covers true []) n
   from_child n o =
       let found = lookup_from_place (eq_by_cmp_equiv by_shape.total) es o.0 o.2 o.3 distinct o.4 in
-      (o.2 ∷ o.5.0, o.5.1, behind o.2 o.5.0 ∙ ap (option_and_then (λ c. get c.paths o.5.0)) found ∙ o.5.2, refl, o.5.4)
+      (o.2 ∷ o.5.0, o.5.1, behind o.2 o.5.0 ∙ ap (option_and_then (λ c. get c.value.paths o.5.0)) found ∙ o.5.2, refl, o.5.4)
 
   all_gathered : (old mid new : List ℕ) → Gathers InGroup old mid paths (covers false []) → GathersBefore (length es) mid new es
       → (n : ℕ) (pattern : List Shape) (x : Names) → get paths pattern ≡ Some x → InGroup x n → has n new ≡ true
@@ -191,9 +191,9 @@ pub distinct_shapes : (es : Children) → IsStrictlySortedBy by_shape.derived (k
 distinct_shapes es sorted = IsDistinct-from_sorted shape_cmp (keys_of es) (subst (λ R. IsStrictlySortedBy R (keys_of es)) by_shape.same sorted)
 
 -- a child has fewer nodes
-pub child_at_falls : (es : Children) (j : ℕ) (k : Shape) (c : Grown shape_cmp Names) → slice_get es j ≡ Some (k, c) → c.nodes < suc (nodes_in es)
+pub child_at_falls : (es : Children) (j : ℕ) (k : Shape) (c : Child shape_cmp Names) → slice_get es j ≡ Some (k, c) → c.value.nodes < suc (nodes_in es)
 child_at_falls [] j k c e = cc
-child_at_falls (e ∷ es) zero k c at = omega (arith, ap (λ e. e.1.nodes) (same_entry e (k, c) at))
+child_at_falls (e ∷ es) zero k c at = omega (arith, ap (λ e. e.1.value.nodes) (same_entry e (k, c) at))
 child_at_falls (e ∷ es) (suc j) k c at = omega (arith, child_at_falls es j k c at)
 
 -- from the groups of the patterns that are meant, all that is meant

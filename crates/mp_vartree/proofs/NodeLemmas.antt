@@ -9,7 +9,7 @@ use Rattle.std.specs.FinMap.{FinMap, IsAntisymmetric, get, empty, get-empty, ret
 use Rattle.std.specs.Map.{lookup, keys_of}
 use Rattle.std.specs.List.{AllByRecursion, IsDistinct}
 use Rattle.std.specs.Map.Calls.{RetainsPairs}
-use Rattle.mp_vartree.specs.Layout.Tree.{Grown, node_of, nodes_in}
+use Rattle.mp_vartree.specs.Layout.Tree.{Child, node_of, nodes_in}
 use Rattle.mp_vartree.specs.Layout.Children.{paths_of}
 use Rattle.mp_vartree.proofs.TreeLemmas.{ChangesChild, get-node_of, get-node_of-here, get-kept, tied, both_same, retain_steps}
 
@@ -22,53 +22,53 @@ then_map f g None = refl
 then_map f g (Some x) = refl
 
 module _ {K X : Type 0} (R : K → K → Ordering) (o : IsTotalOrder R) (same' : IsAntisymmetric R) where
-  child_paths : (p : K) (children : List (K × Grown R X)) → lookup (λ k. is_eq (R p k)) (paths_of children) ≡ option_map (λ g. g.paths) (lookup (λ k. is_eq (R p k)) children)
+  child_paths : (p : K) (children : List (K × Child R X)) → lookup (λ k. is_eq (R p k)) (paths_of children) ≡ option_map (λ g. g.value.paths) (lookup (λ k. is_eq (R p k)) children)
   child_paths p [] = refl
-  child_paths p (e ∷ es) = passed (λ g. g.paths) (is_eq (R p e.0)) e.1 _ _ (child_paths p es)
+  child_paths p (e ∷ es) = passed (λ g. g.value.paths) (is_eq (R p e.0)) e.1 _ _ (child_paths p es)
 
-  pub get-here : (held : Option X) (children : List (K × Grown R X)) → get (node_of R held (paths_of children)) [] ≡ held
+  pub get-here : (held : Option X) (children : List (K × Child R X)) → get (node_of R held (paths_of children)) [] ≡ held
   get-here held children = get-node_of-here R o same' held (paths_of children)
 
-  pub get-behind : (held : Option X) (children : List (K × Grown R X)) (p : K) (rest : List K)
-      → get (node_of R held (paths_of children)) (p ∷ rest) ≡ option_and_then (λ g. get g.paths rest) (lookup (λ k. is_eq (R p k)) children)
+  pub get-behind : (held : Option X) (children : List (K × Child R X)) (p : K) (rest : List K)
+      → get (node_of R held (paths_of children)) (p ∷ rest) ≡ option_and_then (λ g. get g.value.paths rest) (lookup (λ k. is_eq (R p k)) children)
   get-behind held children p rest =
       get-node_of R o same' held (paths_of children) p rest ∙ ap (option_and_then (λ child. get child rest)) (child_paths p children)
-      ∙ then_map (λ g. g.paths) (λ child. get child rest) (lookup (λ k. is_eq (R p k)) children)
+      ∙ then_map (λ g. g.value.paths) (λ child. get child rest) (lookup (λ k. is_eq (R p k)) children)
 
   -- a child's paths, or none
-  abbrev pub below : Option (Grown R X) → FinMap (slice_cmp R) X
+  abbrev pub below : Option (Child R X) → FinMap (slice_cmp R) X
   below None = empty
-  below (Some g) = g.paths
+  below (Some g) = g.value.paths
 
-  get-below : (child : Option (Grown R X)) (ps : List K) → option_and_then (λ g. get g.paths ps) child ≡ get (below child) ps
+  get-below : (child : Option (Child R X)) (ps : List K) → option_and_then (λ g. get g.value.paths ps) child ≡ get (below child) ps
   get-below None ps = sym (get-empty (slice_cmp R) ps)
   get-below (Some g) ps = refl
 
-  changed : (b : Bool) (w : Option (Grown R X)) (old : Option (Grown R X)) (ps : List K) → option_and_then (λ g. get g.paths ps) (cond b w old) ≡ cond b (get (below w) ps) (option_and_then (λ g. get g.paths ps) old)
+  changed : (b : Bool) (w : Option (Child R X)) (old : Option (Child R X)) (ps : List K) → option_and_then (λ g. get g.value.paths ps) (cond b w old) ≡ cond b (get (below w) ps) (option_and_then (λ g. get g.value.paths ps) old)
   changed true w old ps = get-below w ps
   changed false w old ps = refl
 
   -- where one child changes
-  pub changes_child : (held : Option X) (children new : List (K × Grown R X)) (k : K) (w : Option (Grown R X))
+  pub changes_child : (held : Option X) (children new : List (K × Child R X)) (k : K) (w : Option (Child R X))
       → ((q : K) → lookup (λ p. is_eq (R q p)) new ≡ cond (is_eq (R k q)) w (lookup (λ p. is_eq (R q p)) children))
       → ChangesChild R o same' k (node_of R held (paths_of children)) (node_of R held (paths_of new)) (below (lookup (λ p. is_eq (R k p)) children)) (below w)
   changes_child held children new k w updates = record {
     here = get-here held new ∙ sym (get-here held children);
     behind = λ p ps.
-        get-behind held new p ps ∙ ap (option_and_then (λ g. get g.paths ps)) (updates p)
+        get-behind held new p ps ∙ ap (option_and_then (λ g. get g.value.paths ps)) (updates p)
         ∙ changed (is_eq (R k p)) w (lookup (λ q. is_eq (R p q)) children) ps ∙ ap (cond (is_eq (R k p)) (get (below w) ps)) (sym (get-behind held children p ps));
     before = λ ps. get-behind held children k ps ∙ get-below (lookup (λ p. is_eq (R k p)) children) ps;
   }
 
   -- where of each child those paths are kept that pass
-  pub retained_children : (held held' : Option X) (children new : List (K × Grown R X)) (test : List K → Bool) → held' ≡ cond (test []) held None
-      → ((q : K) (ps : List K) → option_and_then (λ g. get g.paths ps) (lookup (λ k. is_eq (R q k)) new) ≡ cond (test (q ∷ ps)) (option_and_then (λ g. get g.paths ps) (lookup (λ k. is_eq (R q k)) children)) None)
+  pub retained_children : (held held' : Option X) (children new : List (K × Child R X)) (test : List K → Bool) → held' ≡ cond (test []) held None
+      → ((q : K) (ps : List K) → option_and_then (λ g. get g.value.paths ps) (lookup (λ k. is_eq (R q k)) new) ≡ cond (test (q ∷ ps)) (option_and_then (λ g. get g.value.paths ps) (lookup (λ k. is_eq (R q k)) children)) None)
       → node_of R held' (paths_of new) ≡ retain_keys (node_of R held (paths_of children)) test
   retained_children held held' children new test here behind =
       retain_steps R o same' (node_of R held (paths_of children)) (node_of R held' (paths_of new)) test
       (get-here held' new ∙ here ∙ ap (λ h. cond (test []) h None) (sym (get-here held children)))
       (λ p ps. get-behind held' new p ps ∙ behind p ps ∙ ap (λ found. cond (test (p ∷ ps)) found None) (sym (get-behind held children p ps)))
 
-pub child_falls : {J K X : Type 0} {R : K → K → Ordering} (before after : List (J × Grown R X)) (k : J) (child : Grown R X) → child.nodes < suc (nodes_in (before ++ (k, child) ∷ after))
+pub child_falls : {J K X : Type 0} {R : K → K → Ordering} (before after : List (J × Child R X)) (k : J) (child : Child R X) → child.value.nodes < suc (nodes_in (before ++ (k, child) ∷ after))
 child_falls [] after k child = omega arith
 child_falls (e ∷ es) after k child = omega (arith, child_falls es after k child)

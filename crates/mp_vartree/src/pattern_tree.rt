@@ -21,7 +21,7 @@ use std::marker::Model;
 #[derive(Drop)]
 pub struct PatternTree<X> {
     held: Option<X>,
-    children: BTreeMap<Shape, PatternTree<X>>,
+    children: BTreeMap<Shape, Box<PatternTree<X>>>,
 }
 
 impl<X> Model for PatternTree<X> {
@@ -70,7 +70,10 @@ impl<X> PatternTree<X> {
     pub fn child(&self, shape: Shape) -> Option<&PatternTree<X>>
         ensures { (rest : List PatternPart) → get self.now.paths (shape ∷ rest) ≡ option_and_then (λ child. get child.now.paths rest) result }
     {
-        self.children.get(&shape)
+        match self.children.get(&shape) {
+            Some(child) => Some(child),
+            None => None,
+        }
     }
 
     /// What stands at the empty pattern.
@@ -81,9 +84,9 @@ impl<X> PatternTree<X> {
     }
 
     /// The children, each behind its shape.
-    pub fn children(&self) -> &BTreeMap<Shape, PatternTree<X>>
+    pub fn children(&self) -> &BTreeMap<Shape, Box<PatternTree<X>>>
         ensures paths { (shape : PatternPart) → (rest : List PatternPart)
-            → get self.now.paths (shape ∷ rest) ≡ option_and_then (λ child. get child.paths rest) (lookup (λ k. is_eq (shape_cmp shape k)) result.now.entries) }
+            → get self.now.paths (shape ∷ rest) ≡ option_and_then (λ child. get child.value.paths rest) (lookup (λ k. is_eq (shape_cmp shape k)) result.now.entries) }
         ensures nodes { self.now.nodes ≡ suc (nodes_in result.now.entries) }
     {
         &self.children
@@ -121,7 +124,7 @@ impl<X: Drop> PatternTree<X> {
                 }
                 let mut child = PatternTree::new(alloc);
                 child.insert(alloc, rest, x)?;
-                self.children.insert(*shape, child)?;
+                self.children.insert(*shape, Box::new(alloc, child)?)?;
                 Ok(())
             }
         }

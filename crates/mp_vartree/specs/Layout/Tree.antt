@@ -4,6 +4,7 @@ use Rattle.std.specs.Coded.{Coded, code_by, coded×, coded_ℕ, coded_list}
 use Rattle.std.specs.Ordering.{eq_by_cmp}
 use Rattle.std.specs.declared.cmp.Ordering.{Ordering}
 use Rattle.std.specs.Cmp.Lexicographic.{slice_cmp}
+use Rattle.std.specs.Global.{Box}
 use Rattle.std.specs.FinMap as finite
 use Rattle.std.specs.FinMap.{FinMap}
 
@@ -40,6 +41,10 @@ module _ {K X : Type 0} (R : K → K → Ordering) where
   node_of None children = joined children
   node_of (Some x) children = finite.insert (joined children) [] x
 
-abbrev pub nodes_in : {J K X : Type 0} {R : K → K → Ordering} → List (J × Grown R X) → ℕ
+-- a child stands in a box of its own, so that a node's map of children is small
+abbrev pub Child : {K : Type 0} → (K → K → Ordering) → Type 0 → Type 0
+Child R X = Box (Grown R X)
+
+abbrev pub nodes_in : {J K X : Type 0} {R : K → K → Ordering} → List (J × Child R X) → ℕ
 nodes_in [] = 0
-nodes_in (e ∷ es) = e.1.nodes + nodes_in es
+nodes_in (e ∷ es) = e.1.value.nodes + nodes_in es

@@ -1,9 +1,11 @@
 use Rattle.std.proofs.Common.{Some, ap, sym, ◌∙◌}
 use Rattle.std.specs.Option.{option_copied_mut}
+use Rattle.std.specs.Box.{with_value}
+use Rattle.std.specs.FinMap.{retain_keys}
 use Rattle.mp_vartree.proofs.ListLemmas.{empty_from_length}
 use Rattle.mp_vartree.proofs.OrderLemmas.{by_shape}
 use Rattle.mp_vartree.proofs.StepLemmas.{written_back}
-use Rattle.mp_vartree.proofs.CoverLemmas.{none_left, here_removed, child_removed, no_child_removed}
+use Rattle.mp_vartree.proofs.CoverLemmas.{is_left, none_left, here_removed, child_removed, no_child_removed}
 use Rattle.mp_vartree.proofs.pattern_tree.PatternTree.+remove.Goals as goal
 
 pub returns-in_default : goal.returns-in_default
@@ -21,9 +23,11 @@ returns-else-below g t c = rw (empty_from_length c.in-None.ensures.cases, c.if-b
 pub returns-in-Some-get_mut : goal.returns-in-Some-get_mut
 returns-in-Some-get_mut g t c =
     let child = c.in-Some-get_mut.child.now in
-    let lent = c.get_mut.follows.lender c.remove.new.self in
+    let left = with_value child c.remove.new.self in
+    let lent = c.get_mut.follows.lender left in
     let before = ap option_copied_mut (sym c.in-Some-get_mut.is) ∙ c.get_mut.ensures.value in
     rw (c.in-Some.ensures.cases.0, ← c.self-in-Some.view_is)
     (c.prune.ensures
-    ∙ child_removed c.self-in-Some.inside.held c.self-in-Some.inside.children lent c.in-Some.shape.now (Some child) (Some c.remove.new.self) c.args.below c.in-Some.rest.now before
-    (written_back by_shape c.self-in-Some.inside.children lent c.in-Some.shape.now child c.remove.new.self before (c.get_mut.follows.holds c.remove.new.self)) c.remove.ensures)
+    ∙ child_removed c.self-in-Some.inside.held c.self-in-Some.inside.children lent c.in-Some.shape.now (Some child) (Some left) c.args.below c.in-Some.rest.now before
+    (written_back by_shape c.self-in-Some.inside.children lent c.in-Some.shape.now child left before (c.get_mut.follows.holds left))
+    (c.remove.ensures ∙ ap (λ tree. retain_keys tree.paths (is_left c.args.below c.in-Some.rest.now)) c.deref_mut.ensures.value))
