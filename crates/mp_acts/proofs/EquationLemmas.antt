@@ -131,5 +131,5 @@ same_answer : (answer : Result Prepared FormFault) (a b : Prepared) → answer �
 same_answer answer a b e f = cc
 
 pub prepared_ok : (unknowns : Unknowns) (r : Result LinearForm FormFault) (ready : Prepared) (answer : Result Prepared FormFault) → answer ≡ Ok ready → answer ≡ prepared unknowns r → r ≡ Ok ready.residual
-prepared_ok unknowns (Ok p) ready answer e prepared_is = ap (λ x. Ok x.residual) (same_answer answer (record { residual = p; made_for = unknowns }) ready prepared_is e)
+prepared_ok unknowns (Ok p) ready answer e prepared_is = ap (λ x. Ok x.residual) (same_answer answer (record { residual = p; unknowns = unknowns }) ready prepared_is e)
 prepared_ok unknowns (Err other) ready answer e prepared_is = cc

@@ -70,7 +70,7 @@ state variables unknowns = record {
   variables = variables;
   slots = [];
   unknowns = unknowns;
-  events = Fresh ∷ Fresh ∷ [];
+  events = Fresh (codes "x") ∷ Fresh (codes "y") ∷ [];
   lines = [];
 }
 
@@ -119,7 +119,7 @@ x_minus_y = form (pos 0) (term 2 (neg_ℤ one) ∷ term 1 one ∷ [])
 abbrev equal : State
 equal = record start {
   unknowns = record x_and_y { states = None ∷ Some (form (pos 0) (term 1 one ∷ [])) ∷ [] };
-  events = Fresh ∷ Fresh ∷ Equation x_minus_y ∷ [];
+  events = Fresh (codes "x") ∷ Fresh (codes "y") ∷ Equation x_minus_y ∷ [];
 }
 
 equated : equation X Y start ≡ Ok (tt, equal)
@@ -131,7 +131,7 @@ unfolding show value_text form_text more_terms line digits_within digits sum_ter
 shown_up_to_date = refl
 
 -- the replay of the events leaves what is known of the unknowns
-replayed : replay equal.events ≡ equal.unknowns.states
+replayed : replay equal.events ≡ equal.unknowns
 unfolding sum_terms with_term
 replayed = refl
 

@@ -33,7 +33,7 @@ use Rattle.mp_acts.specs.Events.{event_of}
 use Rattle.mp_acts.specs.Kept.{IsKept}
 use Rattle.mp_acts.specs.Variables.{without_names}
 use Rattle.mp_acts.specs.declared.event.Event.{Event as Kept}
-use Rattle.mp_acts.specs.declared.limits.TheConstants.{UNKNOWN_LIMIT}
+use Rattle.mp_solver.specs.declared.limits.TheConstants.{UNKNOWN_LIMIT}
 use Rattle.mp_acts.proofs.EventLemmas.{map_push, events_fresh, states_without_names, events_without_names}
 use Rattle.mp_acts.proofs.ReachLemmas.{reach_of_counted}
 
@@ -154,7 +154,7 @@ module _ (before : Unknowns) (name : List ℕ) (serial : ℕ) (after : Unknowns)
       }
 
   pub with_unknown : {past : Meaning} {count : ℕ} {v : Variables} {slots : List (Option Value)} {events : List Event}
-      → IsKept past count before v slots events → IsKept past (count + 1) after v slots (events ++ event.Fresh ∷ [])
+      → IsKept past count before v slots events → IsKept past (count + 1) after v slots (events ++ event.Fresh name ∷ [])
   with_unknown is = record {
     past_is = is.past_is;
     counted = omega (arith, length_made, is.counted);

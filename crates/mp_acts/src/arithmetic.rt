@@ -5,7 +5,7 @@
 //! the forms. The operators are named as in the language.
 
 ghost use Rattle.std.specs.Prelude.{◌≡◌, ◌≢◌, ◌≤◌, ◌<◌, ◌^◌, Err, unsigned_abs, IfOk};
-ghost use Rattle.mp_forms.specs.Forms.{product_of};
+ghost use Rattle.mp_forms.specs.Forms.{form_times_scaled};
 ghost use Rattle.mp_values.specs.Outcome.{Gives, lift};
 ghost use Rattle.mp_values.specs.declared.fault.Fault.TheVariants.{NoMemory as WantOfMemory};
 ghost use Rattle.mp_acts.specs.State.{unknown_count};
@@ -186,7 +186,7 @@ impl State {
     fn times(&self, form: &Form, factor: i32) -> Result<Form, Fault>
         requires { reach_of_form form.now ≤ unknown_count self.now }
         ensures exact { Gives result self.now
-            (lift (or_refused (product_of factor form.now)) self.now) }
+            (lift (or_refused (form_times_scaled factor form.now)) self.now) }
         ensures within { IfOk result (λ p. reach_of_form p ≤ unknown_count self.now) }
     {
         Ok(form.scale_by(self.alloc, factor)??)

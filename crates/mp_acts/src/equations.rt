@@ -13,12 +13,11 @@ ghost use Rattle.mp_acts.specs.Equations as equations;
 
 use crate::State;
 use crate::event::Event;
-use crate::limits::TERM_LIMIT;
 use crate::texts::push_scaled;
 use mp_forms::Form;
 use mp_report::{Cap, SourceError};
 use mp_scaled::{Bytes, NoMemory};
-use mp_solver::{Equated, Ready};
+use mp_solver::{Equated, Ready, TERM_LIMIT};
 use mp_values::{Fault, Value};
 use mp_vartree::have_one_kind;
 use std::snapshot::Snapshot;
@@ -153,7 +152,7 @@ impl State {
             → operands.up_to_date difference.now self.old ≡ Err (error_of made, self.old)) }
         ensures reduced { IfOk result (λ ready. Ok ready.residual
             ≡ reduce_of self.old.unknowns.states difference.now) }
-        ensures made_for { IfOk result (λ ready. ready.made_for ≡ self.old.unknowns) }
+        ensures unknowns { IfOk result (λ ready. ready.unknowns ≡ self.old.unknowns) }
         ensures within { IfOk result (λ ready. reach_of_form ready.residual
             ≤ unknown_count self.old) }
         ensures same { self.new ≡ self.old }
@@ -166,7 +165,7 @@ impl State {
     fn vanish(&mut self, difference: &Form, ready: Ready) -> Result<(), Fault>
         requires over { reach_of_form difference.now ≤ unknown_count self.old }
         requires reduced { Ok ready.residual ≡ reduce_of self.old.unknowns.states difference.now }
-        requires made_for { ready.made_for ≡ self.old.unknowns }
+        requires unknowns { ready.unknowns ≡ self.old.unknowns }
         requires within { reach_of_form ready.residual ≤ unknown_count self.old }
         ensures exact { Gives result self.new
             (equations.vanish difference.now ready.residual self.old) }
@@ -179,7 +178,7 @@ impl State {
             Equated::Inconsistent(off) => Err(Fault::Refused(SourceError::Inconsistent(off))),
             Equated::CoefficientTooLarge => Err(Fault::Refused(SourceError::CoefficientTooLarge)),
             Equated::Overflow => Err(Fault::Refused(SourceError::Overflow)),
-            Equated::Limit => Err(Fault::Refused(SourceError::Limit(Cap::Terms, TERM_LIMIT))),
+            Equated::Limit => Err(Fault::Refused(SourceError::Limit(Cap::Terms, TERM_LIMIT as u32))),
         }
     }
 
@@ -188,7 +187,7 @@ impl State {
     fn take(&mut self, difference: &Form, ready: Ready) -> Result<Equated, NoMemory>
         requires over { reach_of_form difference.now ≤ unknown_count self.old }
         requires reduced { Ok ready.residual ≡ reduce_of self.old.unknowns.states difference.now }
-        requires made_for { ready.made_for ≡ self.old.unknowns }
+        requires unknowns { ready.unknowns ≡ self.old.unknowns }
         requires within { reach_of_form ready.residual ≤ unknown_count self.old }
         ensures exact { IfOk result (λ answer. (answer, self.new.unknowns.states)
             ≡ eliminate self.old.unknowns.states ready.residual) }

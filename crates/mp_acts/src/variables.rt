@@ -16,15 +16,15 @@ ghost use Rattle.mp_acts.specs.Variables as variables;
 ghost use Rattle.mp_acts.specs.Variables.{IsReadInPart, IsForgetting, SameButRoots};
 
 use crate::event::Event;
-use crate::limits::UNKNOWN_LIMIT;
 use crate::{State, Target, table};
 use mp_forms::Form;
 use mp_report::{Cap, SourceError};
-use mp_scaled::NoMemory;
-use mp_solver::{Fresh, System};
+use mp_scaled::{Bytes, NoMemory};
+use mp_solver::{Fresh, System, UNKNOWN_LIMIT};
 use mp_values::{Fault, Kind, Meaning, Value};
 use mp_vartree::{Part, Shape, Variable, has_kind, variables_are_a_map};
 use std::alloc::Global;
+use std::snapshot::Snapshot;
 
 impl State {
     /// The name of a symbol; a symbol past the table has the empty one.
@@ -138,32 +138,35 @@ impl State {
         ensures counts { unknown_count self.old ≤ unknown_count self.new }
     {
         let text = self.variable_name(symbol, name)?;
-        match self.fresh_unknown(text.as_slice())? {
+        match self.fresh_unknown(&text)? {
             Fresh::Made(serial) => {
                 let value = unknown_value(self.alloc, serial)?;
                 self.keep_made(root, name, value)
             }
-            Fresh::Limit => Err(Fault::Refused(SourceError::Limit(Cap::Unknowns, UNKNOWN_LIMIT))),
+            Fresh::Limit => {
+                let most = UNKNOWN_LIMIT as u32;
+                Err(Fault::Refused(SourceError::Limit(Cap::Unknowns, most)))
+            }
         }
     }
 
     /// One more unknown of that name, unless there are so many already. Its making is the newest event, for which there
     /// is room before it.
-    fn fresh_unknown(&mut self, name: &[u8]) -> Result<Fresh, NoMemory>
+    fn fresh_unknown(&mut self, name: &Bytes) -> Result<Fresh, NoMemory>
         ensures exact { IfOk result (λ answer. (answer, self.new.unknowns)
             ≡ fresh_of self.old.unknowns name.now) }
         ensures made { (serial : ℕ) → result ≡ Ok (Fresh.Made serial)
-            → self.new ≡ variables.with_unknown self.old self.new.unknowns }
+            → self.new ≡ variables.with_unknown self.old name.now self.new.unknowns }
         ensures limit { result ≡ Ok Fresh.Limit → self.new ≡ self.old }
         ensures err { OnErr result (self.new ≡ self.old) }
         ensures within { IfOk result (λ answer. reach_of_fresh answer ≤ unknown_count self.new) }
         ensures counts { unknown_count self.old ≤ unknown_count self.new }
     {
         self.events.reserve(1)?;
-        let answer = self.system.fresh(name)?;
+        let answer = self.system.fresh(name.as_slice())?;
         if let Fresh::Made(_) = answer {
             self.count += 1;
-            self.events.push_reserved(Event::Fresh);
+            self.events.push_reserved(Event::Fresh(Snapshot::of(name)));
         }
         Ok(answer)
     }
@@ -398,7 +401,8 @@ fn room_for_slot(slots: &mut Vec<Option<Value>>) -> Result<u32, NoMemory>
 
 /// Takes the name of an unknown away; a number that is none of an unknown changes nothing.
 fn unname(system: &mut System, serial: u32)
-    ensures { system.new ≡ variables.without_name system.old serial }
+    ensures { system.new ≡ record system.old {
+        unknowns = variables.without_name system.old.unknowns serial } }
 {
     if system.has_unknown(serial) {
         system.unname(serial);
@@ -407,7 +411,8 @@ fn unname(system: &mut System, serial: u32)
 
 /// Takes the names of unknowns away.
 fn unname_all(system: &mut System, serials: &[u32])
-    ensures { system.new ≡ variables.without_names system.old serials.now }
+    ensures { system.new ≡ record system.old {
+        unknowns = variables.without_names system.old.unknowns serials.now } }
 {
     'serials: for serial in serials {
         unname(system, *serial);
