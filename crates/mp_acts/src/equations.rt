@@ -178,7 +178,10 @@ impl State {
             Equated::Inconsistent(off) => Err(Fault::Refused(SourceError::Inconsistent(off))),
             Equated::CoefficientTooLarge => Err(Fault::Refused(SourceError::CoefficientTooLarge)),
             Equated::Overflow => Err(Fault::Refused(SourceError::Overflow)),
-            Equated::Limit => Err(Fault::Refused(SourceError::Limit(Cap::Terms, TERM_LIMIT as u32))),
+            Equated::Limit => Err(Fault::Refused(SourceError::Limit(
+                Cap::Terms,
+                TERM_LIMIT as u32,
+            ))),
         }
     }
 

@@ -402,7 +402,8 @@ fn room_for_slot(slots: &mut Vec<Option<Value>>) -> Result<u32, NoMemory>
 /// Takes the name of an unknown away; a number that is none of an unknown changes nothing.
 fn unname(system: &mut System, serial: u32)
     ensures { system.new ≡ record system.old {
-        unknowns = variables.without_name system.old.unknowns serial } }
+      unknowns = variables.without_name system.old.unknowns serial;
+    } }
 {
     if system.has_unknown(serial) {
         system.unname(serial);
@@ -412,7 +413,8 @@ fn unname(system: &mut System, serial: u32)
 /// Takes the names of unknowns away.
 fn unname_all(system: &mut System, serials: &[u32])
     ensures { system.new ≡ record system.old {
-        unknowns = variables.without_names system.old.unknowns serials.now } }
+      unknowns = variables.without_names system.old.unknowns serials.now;
+    } }
 {
     'serials: for serial in serials {
         unname(system, *serial);
