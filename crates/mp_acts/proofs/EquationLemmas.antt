@@ -104,9 +104,9 @@ equation_keeps states after variables slots residual answer is h e =
 
 -- what is kept of a state is kept by an equation that was accepted, which is the newest event
 module _ {past : Meaning} {count : ℕ} {variables : Variables} {slots : List (Option Value)} {events : List Event} (before now : Unknowns) (difference residual : LinearForm)
-      (is : IsKept past count before variables slots events) (terms : AreTerms difference.terms) (reaches : reach_of_form difference ≤ length before.states)
-      (reduced : Ok residual ≡ reduce_of before.states difference) (within : reach_of_form residual ≤ length before.states)
-      (exact : (Accepted, now.states) ≡ eliminate before.states residual) (names : now.names ≡ before.names) where
+    (is : IsKept past count before variables slots events) (terms : AreTerms difference.terms) (reaches : reach_of_form difference ≤ length before.states)
+    (reduced : Ok residual ≡ reduce_of before.states difference) (within : reach_of_form residual ≤ length before.states)
+    (exact : (Accepted, now.states) ≡ eliminate before.states residual) (names : now.names ≡ before.names) where
   keeps : Keeps before.states now.states variables slots
   keeps = equation_keeps before.states now.states variables slots residual Accepted is.within within exact
 
@@ -131,5 +131,5 @@ same_answer : (answer : Result Prepared FormFault) (a b : Prepared) → answer �
 same_answer answer a b e f = cc
 
 pub prepared_ok : (unknowns : Unknowns) (r : Result LinearForm FormFault) (ready : Prepared) (answer : Result Prepared FormFault) → answer ≡ Ok ready → answer ≡ prepared unknowns r → r ≡ Ok ready.residual
-prepared_ok unknowns (Ok p) ready answer e prepared_is = ap (λ x. Ok x.residual) (same_answer answer (record { residual = p; made_for = unknowns }) ready prepared_is e)
+prepared_ok unknowns (Ok p) ready answer e prepared_is = ap (λ x. Ok x.residual) (same_answer answer (record { residual = p; unknowns = unknowns }) ready prepared_is e)
 prepared_ok unknowns (Err other) ready answer e prepared_is = cc

@@ -1,6 +1,7 @@
 pub mod ReachLemmas
 pub mod EquationLemmas
 pub mod EventLemmas
+mod Examples
 pub mod GroupLemmas
 pub mod TableLemmas
 pub mod TextLemmas

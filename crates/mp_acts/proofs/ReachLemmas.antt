@@ -1,5 +1,5 @@
 -- Forms keep within the unknowns: what is made of forms reaches no further than they do.
-use Rattle.std.proofs.Common.{◌≡◌, ℕ, zero, suc, ◌+◌, ◌≤◌, ◌<◌, ◌^◌, max, ℤ, ◌+ℤ◌, unsigned_abs, Bool, true, false, cond, List, [], ◌∷◌, ◌++◌, Option, Some, None, Result, Ok, Err, leb, ltb, ◌-◌, inl, inr, length, get_or, sym, subst, ◌∙◌, arith}
+use Rattle.std.proofs.Common.{◌≡◌, ℕ, zero, suc, ◌+◌, ◌≤◌, ◌<◌, ◌^◌, max, ℤ, ◌+ℤ◌, unsigned_abs, Bool, true, false, cond, List, [], ◌∷◌, ◌++◌, Option, Some, None, Result, Ok, Err, ltb, ◌-◌, inl, inr, length, get_or, sym, subst, ◌∙◌, arith}
 use Rattle.std.specs.Prelude.{nat_lt, nat_eq, is_none}
 use Rattle.std.specs.List.{All, fold, filter, list_any}
 use Rattle.std.specs.Result.{IfOk}
@@ -13,7 +13,7 @@ use Rattle.mp_forms.specs.declared.fault.FormFault.{FormFault}
 use Rattle.mp_forms.specs.declared.fault.FormFault.TheVariants.{Overflow, CoefficientTooLarge, DivisionByZero}
 use Rattle.mp_forms.specs.Ratios.{times_fraction, times_scaled, over_scaled}
 use Rattle.mp_forms.specs.Terms.{joint_term, lone_term, changed_terms, with_term, sum_terms, is_too_large}
-use Rattle.mp_forms.specs.Forms.{LinearForm, within_limits, changed_form, sum_of, product_of, quotient_of}
+use Rattle.mp_forms.specs.Forms.{LinearForm, within_limits, changed_form, sum_of, form_times_scaled, form_over_scaled}
 use Rattle.mp_solver.specs.States.{States, form_of, IsOver}
 use Rattle.mp_solver.specs.Reduction.{independent_part, with_form, with_term_of, reduce_of}
 use Rattle.mp_acts.specs.Reach.{reach_of_serial, reach_of_terms, reach_of_form, reach_of_known}
@@ -62,7 +62,7 @@ reach-append (t ∷ ts) us = omega (arith, reach-append ts us)
 reach-lone : (serial : ℕ) (c : ℤ) → reach_of_terms (lone_term serial c) ≤ reach_of_serial serial
 unfolding reach_of_terms
 reach-lone serial c =
-    elim (leb (unsigned_abs c) 1342) as (λ b. reach_of_terms (cond b [] (record { serial = serial; coefficient = c } ∷ [])) ≤ reach_of_serial serial) [
+    elim (ltb (unsigned_abs c) 1343) as (λ b. reach_of_terms (cond b [] (record { serial = serial; coefficient = c } ∷ [])) ≤ reach_of_serial serial) [
       | true ↦ omega arith
       | false ↦ omega arith
     ]
@@ -121,10 +121,10 @@ module _ (n : ℕ) where
   pub sum_within : (f : ℤ) (p q : LinearForm) → reach_of_form p ≤ n → reach_of_form q ≤ n → Within n (sum_of f p q)
   sum_within f p q hp hq = limits_within n (p.constant +ℤ times_fraction f q.constant) (sum_terms (times_fraction f) p.terms q.terms) (omega (arith, reach-sum (times_fraction f) p.terms q.terms))
 
-  pub product_within : (s : ℤ) (p : LinearForm) → reach_of_form p ≤ n → Within n (product_of s p)
+  pub product_within : (s : ℤ) (p : LinearForm) → reach_of_form p ≤ n → Within n (form_times_scaled s p)
   product_within s p hp = changed_within n (times_scaled s) p hp
 
-  pub quotient_within : (s : ℤ) (p : LinearForm) → reach_of_form p ≤ n → Within n (quotient_of s p)
+  pub quotient_within : (s : ℤ) (p : LinearForm) → reach_of_form p ≤ n → Within n (form_over_scaled s p)
   quotient_within s p hp =
       elim (nat_eq (unsigned_abs s) 0) as (λ b. Within n (cond b (Err DivisionByZero) (changed_form (over_scaled s) p))) [
         | true ↦ tt

@@ -33,8 +33,8 @@ use Rattle.mp_acts.specs.Events.{event_of}
 use Rattle.mp_acts.specs.Kept.{IsKept}
 use Rattle.mp_acts.specs.Variables.{without_names}
 use Rattle.mp_acts.specs.declared.event.Event.{Event as Kept}
-use Rattle.mp_acts.specs.declared.limits.TheConstants.{UNKNOWN_LIMIT}
-use Rattle.mp_acts.proofs.EventLemmas.{map_push, events_fresh, events_equation, states_without_names, events_without_names}
+use Rattle.mp_solver.specs.declared.limits.TheConstants.{UNKNOWN_LIMIT}
+use Rattle.mp_acts.proofs.EventLemmas.{map_push, events_fresh, states_without_names, events_without_names}
 use Rattle.mp_acts.proofs.ReachLemmas.{reach_of_counted}
 
 -- each variable reaches so far at most
@@ -48,21 +48,6 @@ with_variables is h = record {
   past_is = is.past_is;
   counted = is.counted;
   within = record { few = is.within.few; forms = is.within.forms; held = h; filled = is.within.filled };
-  history = is.history;
-}
-
--- and with one more slot, which is open
-pub with_slot : {past : Meaning} {count : ℕ} {unknowns : Unknowns} {variables : Variables} {old : List (Option Value)} {events : List Event}
-    → IsKept past count unknowns variables old events → IsKept past count unknowns variables (old ++ None ∷ []) events
-with_slot {unknowns = unknowns} {old = old} is = record {
-  past_is = is.past_is;
-  counted = is.counted;
-  within = record {
-    few = is.within.few;
-    forms = is.within.forms;
-    held = is.within.held;
-    filled = All-push (λ slot. reach_of_slot slot ≤ length unknowns.states) old None is.within.filled (omega arith);
-  };
   history = is.history;
 }
 
@@ -159,8 +144,8 @@ module _ (before : Unknowns) (name : List ℕ) (serial : ℕ) (after : Unknowns)
       let n = length before.states in
       let m = length after.states in
       let forms : All (λ known. reach_of_known known ≤ m) (with_fresh before.states) =
-          All-push (λ known. reach_of_known known ≤ m) before.states None
-          (All-weaker (λ known. reach_of_known known ≤ n) (λ known. reach_of_known known ≤ m) (λ known h. omega (arith, length_made, h)) before.states is.forms) (omega arith) in
+      All-push (λ known. reach_of_known known ≤ m) before.states None
+      (All-weaker (λ known. reach_of_known known ≤ n) (λ known. reach_of_known known ≤ m) (λ known h. omega (arith, length_made, h)) before.states is.forms) (omega arith) in
       record {
         few = omega (arith, length_made, made_is.0);
         forms = subst (λ (states : States). All (λ known. reach_of_known known ≤ m) states) (sym made_is.2) forms;
@@ -169,7 +154,7 @@ module _ (before : Unknowns) (name : List ℕ) (serial : ℕ) (after : Unknowns)
       }
 
   pub with_unknown : {past : Meaning} {count : ℕ} {v : Variables} {slots : List (Option Value)} {events : List Event}
-      → IsKept past count before v slots events → IsKept past (count + 1) after v slots (events ++ event.Fresh ∷ [])
+      → IsKept past count before v slots events → IsKept past (count + 1) after v slots (events ++ event.Fresh name ∷ [])
   with_unknown is = record {
     past_is = is.past_is;
     counted = omega (arith, length_made, is.counted);

@@ -6,7 +6,7 @@ use Rattle.mp_pool.specs.declared.Term.{Term}
 use Rattle.mp_scaled.specs.Round.{make_scaled_of}
 use Rattle.mp_scaled.specs.declared.arith.Arith.{Arith}
 use Rattle.mp_report.specs.declared.error.SourceError.{SourceError}
-use Rattle.mp_forms.specs.Forms.{LinearForm, sum_of, product_of, quotient_of}
+use Rattle.mp_forms.specs.Forms.{LinearForm, sum_of, form_times_scaled, form_over_scaled}
 use Rattle.mp_values.specs.Outcome.{Rule, ◌>>=◌, give, lift}
 use Rattle.mp_values.specs.Refusals.{error_of_arith, not_known}
 use Rattle.mp_values.specs.declared.value.Value.{Value}
@@ -66,13 +66,13 @@ positive a = do
 unfoldable pub negated : Value → Rule State Value
 negated a = do
   p ← operand (codes "-") a
-  negative ← lift (or_refused (product_of (neg_ℤ (pos 65536)) p))
+  negative ← lift (or_refused (form_times_scaled (neg_ℤ (pos 65536)) p))
   give (Numeric negative)
 
 -- one of the factors must be known
 abbrev pub product_by : LinearForm → LinearForm → List Term → List Term → Result LinearForm SourceError
-product_by p q ts [] = or_refused (product_of q.constant p)
-product_by p q [] us = or_refused (product_of p.constant q)
+product_by p q ts [] = or_refused (form_times_scaled q.constant p)
+product_by p q [] us = or_refused (form_times_scaled p.constant q)
 product_by p q ts us = Err (not_known (codes "*"))
 
 unfoldable pub product : Value → Value → Rule State Value
@@ -85,7 +85,7 @@ unfoldable pub quotient : Value → Value → Rule State Value
 quotient a b = do
   both ← operands (codes "/") a b
   divisor ← known (codes "/") both.1
-  value ← lift (or_refused (quotient_of divisor both.0))
+  value ← lift (or_refused (form_over_scaled divisor both.0))
   give (Numeric value)
 
 -- THE OPERATORS

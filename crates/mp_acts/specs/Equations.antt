@@ -21,7 +21,7 @@ use Rattle.mp_acts.specs.State.{State}
 use Rattle.mp_acts.specs.Operands.{up_to_date, settled}
 use Rattle.mp_acts.specs.Arithmetic.{difference_by}
 use Rattle.mp_acts.specs.Lines.{line}
-use Rattle.mp_acts.specs.declared.limits.TheConstants.{TERM_LIMIT}
+use Rattle.mp_solver.specs.declared.limits.TheConstants.{TERM_LIMIT}
 
 -- an equation that holds already is noted, with the difference of its sides
 abbrev pub redundant : ℤ → Rule State (Unit {0})

@@ -1,6 +1,6 @@
 -- Groups, and the statements that change what symbols mean.
 -- After Hobby, A User's Manual for MetaPost, sections 5 and 10, and Knuth, METAFONT: The Program, part 16.
-use Rattle.std.specs.Prelude.{◌≡◌, ℕ, zero, suc, pos, List, [], ◌∷◌, ◌++◌, length, cond, nat_lt, codes}
+use Rattle.std.specs.Prelude.{◌≡◌, ℕ, zero, suc, pos, List, [], ◌∷◌, ◌++◌, length, codes}
 use Rattle.mp_symbols.specs.Tables.{Table}
 use Rattle.mp_symbols.specs.Groups as table
 use Rattle.mp_symbols.specs.declared.saved.Saved.{Saved}
@@ -61,7 +61,7 @@ pub record IsUndoneInPart (old new : State) : Type 0 where
 
 -- a symbol becomes a new tag, up to the end of the group; a number past the symbols changes nothing
 unfoldable pub save : ℕ → State → State
-save symbol s = with_symbols s (cond (nat_lt symbol (length s.symbols.names)) (table.save s.symbols symbol meaning.NewTag) s.symbols)
+save symbol s = with_symbols s (table.save s.symbols symbol meaning.NewTag)
 
 -- what a symbol gets that is let have this meaning: a tag's copy is a new tag
 abbrev pub copied : Meaning → Meaning
@@ -89,13 +89,9 @@ abbrev pub with_each : SymbolCommand → ℕ → State → State
 with_each word.Save symbol s = save symbol s
 with_each word.Newinternal symbol s = new_internal symbol s
 
--- the present value of an internal is kept for the end of the group; a number past the internals changes nothing
-abbrev pub with_kept : Table Meaning → ℕ → Table Meaning
-with_kept symbols k = cond (nat_lt k (length symbols.internals)) (table.save_internal symbols k) symbols
-
--- an internal gets a known value, up to the end of the group
+-- an internal gets a known value, up to the end of the group; a number past the internals changes nothing
 unfoldable pub interim : ℕ → Value → Rule State (Unit {0})
 interim k v = do
   p ← operand (codes "interim") v
   value ← known (codes "interim") p
-  change (λ s. with_symbols s (table.with_internal (with_kept s.symbols k) k value))
+  change (λ s. with_symbols s (table.with_internal (table.save_internal s.symbols k) k value))

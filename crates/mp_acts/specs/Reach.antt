@@ -11,7 +11,7 @@ use Rattle.mp_vartree.specs.Variables.{Variables}
 use Rattle.mp_vartree.specs.Laws.{held}
 use Rattle.mp_vartree.specs.declared.entry.Variable.{Variable}
 use Rattle.mp_vartree.specs.declared.names.Part.{Part}
-use Rattle.mp_acts.specs.declared.limits.TheConstants.{UNKNOWN_LIMIT}
+use Rattle.mp_solver.specs.declared.limits.TheConstants.{UNKNOWN_LIMIT}
 
 -- serials count from 1: no number of unknowns is enough for 0
 abbrev pub reach_of_serial : ℕ → ℕ

@@ -6,7 +6,6 @@ use Rattle.mp_values.specs.Words.{words, name_of_word}
 use Rattle.mp_values.specs.declared.meaning.Meaning.{Meaning}
 use Rattle.mp_values.specs.declared.meaning.Meaning.TheVariants as meaning
 use Rattle.mp_values.specs.declared.word.Word.{Word}
-use Rattle.mp_values.specs.declared.word.Word.TheVariants as word
 use Rattle.mp_vartree.specs.Variables.{no_variables}
 use Rattle.mp_acts.specs.State.{State}
 

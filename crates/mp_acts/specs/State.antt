@@ -1,9 +1,9 @@
 -- What statements act on.
-use Rattle.std.specs.Prelude.{ℕ, ℤ, pos, Bool, true, false, List, [], Option, unwrap_or, length, count_by, slice_get}
+use Rattle.std.specs.Prelude.{ℕ, ℤ, pos, List, [], Option, unwrap_or, length, slice_get}
 use Rattle.mp_symbols.specs.Names.{name_in, meaning_in}
 use Rattle.mp_symbols.specs.Tables.{Table}
 use Rattle.mp_solver.specs.States.{Unknowns}
-use Rattle.mp_solver.specs.Replay.{Event, Fresh, Equation}
+use Rattle.mp_solver.specs.Replay.{Event, unknowns_made, equations_accepted}
 use Rattle.mp_values.specs.declared.meaning.Meaning.{Meaning}
 use Rattle.mp_values.specs.declared.meaning.Meaning.TheVariants.{NewTag}
 use Rattle.mp_values.specs.declared.value.Value.{Value}
@@ -18,7 +18,8 @@ pub record State : Type 0 where
   pub slots : List (Option Value)
   -- the unknowns that were made, and what the equations so far say of them
   pub unknowns : Unknowns
-  -- what made the unknowns what they are, in order: each unknown that was made, and each equation that was accepted
+  -- what made the unknowns what they are, in order: each unknown that was made, with its name, and each equation
+  -- that was accepted. That a name is taken away is none
   pub events : List Event
   -- the lines so far
   pub lines : List ℕ
@@ -27,21 +28,13 @@ pub record State : Type 0 where
 abbrev pub unknown_count : State → ℕ
 unknown_count s = length s.unknowns.states
 
-abbrev pub is_fresh : Event → Bool
-is_fresh Fresh = true
-is_fresh (Equation difference) = false
-
-abbrev pub is_equation : Event → Bool
-is_equation Fresh = false
-is_equation (Equation difference) = true
-
 -- the number of unknowns that were made
 abbrev pub made_unknowns : State → ℕ
-made_unknowns s = count_by is_fresh s.events
+made_unknowns s = unknowns_made s.events
 
 -- the number of equations that were accepted
 abbrev pub accepted_equations : State → ℕ
-accepted_equations s = count_by is_equation s.events
+accepted_equations s = equations_accepted s.events
 
 -- the name of a symbol
 abbrev pub symbol_name : State → ℕ → List ℕ

@@ -1,9 +1,9 @@
 -- Variables: their roots, their declarations, how they are read, and what is assigned.
 -- After Knuth, METAFONT: The Program, parts 15 and 43; nameless unknowns, and slots in the place of rings, are this project's own.
-use Rattle.std.specs.Prelude.{◌≡◌, ◌⊎◌, ℕ, pos, ◌-◌, Bool, true, false, cond, nat_le, ◌&&◌, List, [], ◌∷◌, ◌++◌, Option, Some, None, Result, Ok, Err, length, slice_set, codes}
+use Rattle.std.specs.Prelude.{◌≡◌, ◌⊎◌, ℕ, pos, Bool, true, false, cond, nat_le, ◌&&◌, List, [], ◌∷◌, ◌++◌, Option, Some, None, Result, Ok, Err, length, codes}
 use Rattle.std.specs.List.{fold}
 use Rattle.mp_forms.specs.Forms.{LinearForm}
-use Rattle.mp_solver.specs.States.{Unknowns, fresh_of}
+use Rattle.mp_solver.specs.States.{Unknowns, fresh_of, unnamed}
 use Rattle.mp_solver.specs.declared.fresh.Fresh.{Fresh}
 use Rattle.mp_solver.specs.declared.fresh.Fresh.TheVariants.{Made, Limit}
 use Rattle.mp_solver.specs.Replay as event
@@ -30,7 +30,7 @@ use Rattle.mp_acts.specs.Operands.{up_to_date, operand, known}
 use Rattle.mp_acts.specs.Suffixes.{variable_name}
 use Rattle.mp_acts.specs.declared.target.Target.{Target}
 use Rattle.mp_acts.specs.declared.target.Target.TheVariants as target
-use Rattle.mp_acts.specs.declared.limits.TheConstants.{UNKNOWN_LIMIT}
+use Rattle.mp_solver.specs.declared.limits.TheConstants.{UNKNOWN_LIMIT}
 
 -- ROOTS
 
@@ -63,14 +63,14 @@ with_variable made s root name v = record s { variables = variables.with_variabl
 abbrev pub read_anew : State → ℕ → List Part → Value → Outcome State Value
 read_anew s root name v = Ok (v, with_variable true s root name v)
 
--- the state with one more unknown, whose making is the newest event
-abbrev pub with_unknown : State → Unknowns → State
-with_unknown s unknowns = record s { unknowns = unknowns; events = s.events ++ event.Fresh ∷ [] }
+-- the state with one more unknown, whose making, of that name, is the newest event
+abbrev pub with_unknown : State → List ℕ → Unknowns → State
+with_unknown s name unknowns = record s { unknowns = unknowns; events = s.events ++ event.Fresh name ∷ [] }
 
 -- what comes of a wish for one more unknown, which a variable is to be
-abbrev pub made_unknown : State → ℕ → List Part → Fresh × Unknowns → Outcome State Value
-made_unknown s root name (Made serial, unknowns) = read_anew (with_unknown s unknowns) root name (Numeric (unknown_form serial))
-made_unknown s root name (Limit, unknowns) = Err (error.Limit cap.Unknowns UNKNOWN_LIMIT, s)
+abbrev pub made_unknown : State → ℕ → List Part → List ℕ → Fresh × Unknowns → Outcome State Value
+made_unknown s root name text (Made serial, unknowns) = read_anew (with_unknown s text unknowns) root name (Numeric (unknown_form serial))
+made_unknown s root name text (Limit, unknowns) = Err (error.Limit cap.Unknowns UNKNOWN_LIMIT, s)
 
 -- a variable gets a new slot, which is open
 abbrev pub made_slot : State → ℕ → List Part → Kind → Outcome State Value
@@ -78,7 +78,7 @@ made_slot s root name kind = read_anew (record s { slots = s.slots ++ None ∷ [
 
 -- a number becomes a new unknown of the variable's name; what unknowns cannot stand for gets a slot
 abbrev pub made_value : ℕ → ℕ → List Part → Kind → Rule State Value
-made_value symbol root name kind.Numeric s = made_unknown s root name (fresh_of s.unknowns (variable_name s symbol name))
+made_value symbol root name kind.Numeric s = let text = variable_name s symbol name in made_unknown s root name text (fresh_of s.unknowns text)
 made_value symbol root name kind.Boolean s = made_slot s root name kind.Boolean
 made_value symbol root name kind.Text s = made_slot s root name kind.Text
 
@@ -93,7 +93,7 @@ read symbol root name s = value_of symbol root name (variable_at s.variables roo
 -- what want of memory leaves of a reading: the state as it was, or one with an unknown of the variable's name, which no
 -- value speaks of
 abbrev pub IsReadInPart : ℕ → List Part → State → State → Type 0
-IsReadInPart symbol name old new = (new ≡ old) ⊎ (new ≡ with_unknown old (fresh_of old.unknowns (variable_name old symbol name)).1)
+IsReadInPart symbol name old new = (new ≡ old) ⊎ (new ≡ with_unknown old (variable_name old symbol name) (fresh_of old.unknowns (variable_name old symbol name)).1)
 
 -- GIVING UP
 
@@ -103,7 +103,7 @@ is_unknown unknowns serial = nat_le 1 serial && nat_le serial (length unknowns.s
 
 -- an unknown loses its name; a number that is none of an unknown changes nothing
 abbrev pub without_name : Unknowns → ℕ → Unknowns
-without_name unknowns serial = cond (is_unknown unknowns serial) (record unknowns { names = slice_set unknowns.names (serial - 1) None }) unknowns
+without_name unknowns serial = cond (is_unknown unknowns serial) (unnamed unknowns serial) unknowns
 
 unfoldable pub without_names : Unknowns → List ℕ → Unknowns
 without_names unknowns serials = fold without_name unknowns serials

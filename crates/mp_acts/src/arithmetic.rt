@@ -4,9 +4,10 @@
 //! then what must be known is tested (`NotKnown`). `Overflow`, `CoefficientTooLarge` and `DivisionByZero` are those of
 //! the forms. The operators are named as in the language.
 
-ghost use Rattle.std.specs.Prelude.{ℤ, ◌≡◌, ◌≤◌, ◌<◌, ◌^◌, unsigned_abs, IfOk};
-ghost use Rattle.mp_forms.specs.Forms.{product_of};
+ghost use Rattle.std.specs.Prelude.{◌≡◌, ◌≢◌, ◌≤◌, ◌<◌, ◌^◌, Err, unsigned_abs, IfOk};
+ghost use Rattle.mp_forms.specs.Forms.{form_times_scaled};
 ghost use Rattle.mp_values.specs.Outcome.{Gives, lift};
+ghost use Rattle.mp_values.specs.declared.fault.Fault.TheVariants.{NoMemory as WantOfMemory};
 ghost use Rattle.mp_acts.specs.State.{unknown_count};
 ghost use Rattle.mp_acts.specs.Reach.{reach, reach_of_form};
 ghost use Rattle.mp_acts.specs.Operands.{or_refused};
@@ -40,7 +41,8 @@ impl State {
     pub fn secondary(&self, op: Secondary, left: &Value, right: &Value) -> Result<Value, Fault>
         requires left { reach left.now ≤ unknown_count self.now }
         requires right { reach right.now ≤ unknown_count self.now }
-        ensures exact { Gives result self.now (arithmetic.secondary op left.now right.now self.now) }
+        ensures exact { Gives result self.now
+            (arithmetic.secondary op left.now right.now self.now) }
         ensures within { IfOk result (λ v. reach v ≤ unknown_count self.now) }
     {
         match op {
@@ -76,6 +78,7 @@ impl State {
     #[tactic(auto, unfolding(crate::specs::Arithmetic::fraction))]
     pub fn fraction(&self, over: Scaled, under: Scaled) -> Result<Value, Fault>
         ensures exact { Gives result self.now (lift (arithmetic.fraction over under) self.now) }
+        ensures sure { result ≢ Err WantOfMemory }
         ensures within { IfOk result (λ v. reach v ≡ 0) }
     {
         let units = make_scaled(i64::from(over.units()), i64::from(under.units()))?;
@@ -130,7 +133,8 @@ impl State {
     ) -> Result<Form, Fault>
         requires left { reach left.now ≤ unknown_count self.now }
         requires right { reach right.now ≤ unknown_count self.now }
-        ensures exact { Gives result self.now (arithmetic.difference_by op.now left.now right.now self.now) }
+        ensures exact { Gives result self.now
+            (arithmetic.difference_by op.now left.now right.now self.now) }
         ensures within { IfOk result (λ p. reach_of_form p ≤ unknown_count self.now) }
     {
         self.combined(op, -ONE, left, right)
@@ -142,7 +146,8 @@ impl State {
         requires factor { unsigned_abs f < 2 ^ 44 }
         requires left { reach left.now ≤ unknown_count self.now }
         requires right { reach right.now ≤ unknown_count self.now }
-        ensures exact { Gives result self.now (arithmetic.combined op.now f left.now right.now self.now) }
+        ensures exact { Gives result self.now
+            (arithmetic.combined op.now f left.now right.now self.now) }
         ensures within { IfOk result (λ p. reach_of_form p ≤ unknown_count self.now) }
     {
         let (p, q) = self.operands(op, left, right)?;
@@ -164,7 +169,8 @@ impl State {
     fn product_by(&self, p: &Form, q: &Form) -> Result<Form, Fault>
         requires left { reach_of_form p.now ≤ unknown_count self.now }
         requires right { reach_of_form q.now ≤ unknown_count self.now }
-        ensures exact { Gives result self.now (lift (arithmetic.product_by p.now q.now p.now.terms q.now.terms) self.now) }
+        ensures exact { Gives result self.now
+            (lift (arithmetic.product_by p.now q.now p.now.terms q.now.terms) self.now) }
         ensures within { IfOk result (λ form. reach_of_form form ≤ unknown_count self.now) }
     {
         if q.terms().is_empty() {
@@ -179,7 +185,8 @@ impl State {
     /// A form multiplied by a known number, in units of 2^-16.
     fn times(&self, form: &Form, factor: i32) -> Result<Form, Fault>
         requires { reach_of_form form.now ≤ unknown_count self.now }
-        ensures exact { Gives result self.now (lift (or_refused (product_of factor form.now)) self.now) }
+        ensures exact { Gives result self.now
+            (lift (or_refused (form_times_scaled factor form.now)) self.now) }
         ensures within { IfOk result (λ p. reach_of_form p ≤ unknown_count self.now) }
     {
         Ok(form.scale_by(self.alloc, factor)??)

@@ -1,7 +1,6 @@
 //! Equations between two values.
 
-ghost use Rattle.std.specs.Prelude.{◌≡◌, ◌≢◌, ◌≤◌, Ok, Err, IfOk, IfErr, OnOk, OnErr};
-ghost use Rattle.mp_forms.specs.Terms.{AreTerms};
+ghost use Rattle.std.specs.Prelude.{◌≡◌, ◌≢◌, ◌≤◌, Ok, Err, IfOk, IfErr};
 ghost use Rattle.mp_solver.specs.Elimination.{eliminate};
 ghost use Rattle.mp_solver.specs.Reduction.{reduce_of};
 ghost use Rattle.mp_values.specs.Outcome.{Gives, IsWhole, change, error_of};
@@ -14,12 +13,11 @@ ghost use Rattle.mp_acts.specs.Equations as equations;
 
 use crate::State;
 use crate::event::Event;
-use crate::limits::TERM_LIMIT;
 use crate::texts::push_scaled;
 use mp_forms::Form;
 use mp_report::{Cap, SourceError};
 use mp_scaled::{Bytes, NoMemory};
-use mp_solver::{Equated, Ready};
+use mp_solver::{Equated, Ready, TERM_LIMIT};
 use mp_values::{Fault, Value};
 use mp_vartree::have_one_kind;
 use std::snapshot::Snapshot;
@@ -52,7 +50,8 @@ impl State {
     fn equate_settled(&mut self, left: &Value, right: &Value) -> Result<(), Fault>
         requires left { reach left.now ≤ unknown_count self.old }
         requires right { reach right.now ≤ unknown_count self.old }
-        ensures exact { Gives result self.new (equations.equate_as (are_of_one_kind left.now right.now) left.now right.now self.old) }
+        ensures exact { Gives result self.new
+            (equations.equate_as (are_of_one_kind left.now right.now) left.now right.now self.old) }
         ensures whole { IsWhole result self.old self.new }
         ensures counts { unknown_count self.old ≤ unknown_count self.new }
     {
@@ -63,6 +62,7 @@ impl State {
         }
     }
 
+    /// Makes two values of one type equal that are no filled slots.
     fn equate(&mut self, left: &Value, right: &Value) -> Result<(), Fault>
         requires left { reach left.now ≤ unknown_count self.old }
         requires right { reach right.now ≤ unknown_count self.old }
@@ -133,7 +133,8 @@ impl State {
     fn equate_numbers(&mut self, left: &Value, right: &Value) -> Result<(), Fault>
         requires left { reach left.now ≤ unknown_count self.old }
         requires right { reach right.now ≤ unknown_count self.old }
-        ensures exact { Gives result self.new (equations.equate_numbers left.now right.now self.old) }
+        ensures exact { Gives result self.new
+            (equations.equate_numbers left.now right.now self.old) }
         ensures whole { IsWhole result self.old self.new }
         ensures counts { unknown_count self.old ≤ unknown_count self.new }
     {
@@ -145,11 +146,15 @@ impl State {
     /// A difference brought up to date, with all that it needs to be made 0.
     fn ready(&mut self, difference: &Form) -> Result<Ready, Fault>
         requires { reach_of_form difference.now ≤ unknown_count self.old }
-        ensures ok { IfOk result (λ ready. operands.up_to_date difference.now self.old ≡ Ok (ready.residual, self.old)) }
-        ensures err { IfErr result (λ made. made ≢ WantOfMemory → operands.up_to_date difference.now self.old ≡ Err (error_of made, self.old)) }
-        ensures reduced { IfOk result (λ ready. Ok ready.residual ≡ reduce_of self.old.unknowns.states difference.now) }
-        ensures made_for { IfOk result (λ ready. ready.made_for ≡ self.old.unknowns) }
-        ensures within { IfOk result (λ ready. reach_of_form ready.residual ≤ unknown_count self.old) }
+        ensures ok { IfOk result (λ ready. operands.up_to_date difference.now self.old
+            ≡ Ok (ready.residual, self.old)) }
+        ensures err { IfErr result (λ made. made ≢ WantOfMemory
+            → operands.up_to_date difference.now self.old ≡ Err (error_of made, self.old)) }
+        ensures reduced { IfOk result (λ ready. Ok ready.residual
+            ≡ reduce_of self.old.unknowns.states difference.now) }
+        ensures unknowns { IfOk result (λ ready. ready.unknowns ≡ self.old.unknowns) }
+        ensures within { IfOk result (λ ready. reach_of_form ready.residual
+            ≤ unknown_count self.old) }
         ensures same { self.new ≡ self.old }
     {
         Ok(self.system.ready(difference)??)
@@ -160,9 +165,10 @@ impl State {
     fn vanish(&mut self, difference: &Form, ready: Ready) -> Result<(), Fault>
         requires over { reach_of_form difference.now ≤ unknown_count self.old }
         requires reduced { Ok ready.residual ≡ reduce_of self.old.unknowns.states difference.now }
-        requires made_for { ready.made_for ≡ self.old.unknowns }
+        requires unknowns { ready.unknowns ≡ self.old.unknowns }
         requires within { reach_of_form ready.residual ≤ unknown_count self.old }
-        ensures exact { Gives result self.new (equations.vanish difference.now ready.residual self.old) }
+        ensures exact { Gives result self.new
+            (equations.vanish difference.now ready.residual self.old) }
         ensures whole { IsWhole result self.old self.new }
         ensures counts { unknown_count self.old ≤ unknown_count self.new }
     {
@@ -172,7 +178,10 @@ impl State {
             Equated::Inconsistent(off) => Err(Fault::Refused(SourceError::Inconsistent(off))),
             Equated::CoefficientTooLarge => Err(Fault::Refused(SourceError::CoefficientTooLarge)),
             Equated::Overflow => Err(Fault::Refused(SourceError::Overflow)),
-            Equated::Limit => Err(Fault::Refused(SourceError::Limit(Cap::Terms, TERM_LIMIT))),
+            Equated::Limit => Err(Fault::Refused(SourceError::Limit(
+                Cap::Terms,
+                TERM_LIMIT as u32,
+            ))),
         }
     }
 
@@ -181,10 +190,12 @@ impl State {
     fn take(&mut self, difference: &Form, ready: Ready) -> Result<Equated, NoMemory>
         requires over { reach_of_form difference.now ≤ unknown_count self.old }
         requires reduced { Ok ready.residual ≡ reduce_of self.old.unknowns.states difference.now }
-        requires made_for { ready.made_for ≡ self.old.unknowns }
+        requires unknowns { ready.unknowns ≡ self.old.unknowns }
         requires within { reach_of_form ready.residual ≤ unknown_count self.old }
-        ensures exact { IfOk result (λ answer. (answer, self.new.unknowns.states) ≡ eliminate self.old.unknowns.states ready.residual) }
-        ensures accepted { result ≡ Ok Equated.Accepted → self.new ≡ equations.with_equation self.old difference.now self.new.unknowns.states }
+        ensures exact { IfOk result (λ answer. (answer, self.new.unknowns.states)
+            ≡ eliminate self.old.unknowns.states ready.residual) }
+        ensures accepted { result ≡ Ok Equated.Accepted
+            → self.new ≡ equations.with_equation self.old difference.now self.new.unknowns.states }
         ensures refused { result ≢ Ok Equated.Accepted → self.new ≡ self.old }
         ensures counts { unknown_count self.new ≡ unknown_count self.old }
     {

@@ -45,7 +45,8 @@ impl State {
     fn undo(&mut self) -> Result<bool, NoMemory>
         ensures more { result ≡ Ok true → groups.end_group self.new ≡ groups.end_group self.old }
         ensures last { result ≡ Ok false → self.new ≡ groups.end_group self.old }
-        ensures fewer { result ≡ Ok true → length self.new.symbols.saved < length self.old.symbols.saved }
+        ensures fewer { result ≡ Ok true
+            → length self.new.symbols.saved < length self.old.symbols.saved }
         ensures symbols { self.new.symbols ≡ (close_group self.old.symbols).1 }
         ensures rest { IsForgetting (with_symbols self.old self.new.symbols) self.new }
         ensures counts { unknown_count self.old ≡ unknown_count self.new }

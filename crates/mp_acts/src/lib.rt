@@ -25,6 +25,6 @@ mod texts;
 mod tokens;
 mod variables;
 
-pub use limits::{LINES_LIMIT, TERM_LIMIT, TEXT_LIMIT, UNKNOWN_LIMIT};
+pub use limits::{LINES_LIMIT, TEXT_LIMIT};
 pub use state::State;
 pub use target::Target;

@@ -1,6 +1,6 @@
 //! The lines that a run writes.
 
-ghost use Rattle.std.specs.Prelude.{◌≡◌, ◌≤◌, IfOk};
+ghost use Rattle.std.specs.Prelude.{◌≤◌};
 ghost use Rattle.mp_values.specs.Outcome.{Gives, IsWhole};
 ghost use Rattle.mp_acts.specs.State.{unknown_count};
 ghost use Rattle.mp_acts.specs.Reach.{reach};

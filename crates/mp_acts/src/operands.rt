@@ -44,7 +44,8 @@ impl State {
     ) -> Result<(Form, Form), Fault>
         requires left { reach left.now ≤ unknown_count self.now }
         requires right { reach right.now ≤ unknown_count self.now }
-        ensures exact { Gives result self.now (arithmetic.operands op.now left.now right.now self.now) }
+        ensures exact { Gives result self.now
+            (arithmetic.operands op.now left.now right.now self.now) }
         ensures within_left { IfOk result (λ both. reach_of_form both.0 ≤ unknown_count self.now) }
         ensures within_right { IfOk result (λ both. reach_of_form both.1 ≤ unknown_count self.now) }
     {

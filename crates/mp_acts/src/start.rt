@@ -58,7 +58,8 @@ fn add_all_internals(symbols: &mut Symbols<Meaning>) -> Result<(), NoMemory>
 }
 
 fn add_all_unbuilt_words(symbols: &mut Symbols<Meaning>) -> Result<(), NoMemory>
-    ensures { OnOk result (symbols.new ≡ with_more_names symbols.old (map unbuilt_entry unbuilt_words)) }
+    ensures { OnOk result (symbols.new ≡ with_more_names symbols.old
+        (map unbuilt_entry unbuilt_words)) }
 {
     add_unbuilt_words(symbols, &DRAWING_WORDS)?;
     add_unbuilt_words(symbols, &MACRO_WORDS)?;
@@ -92,7 +93,8 @@ fn add_internals(
     symbols: &mut Symbols<Meaning>,
     internals: &[(&'static [u8], i32)],
 ) -> Result<(), NoMemory>
-    ensures { OnOk result (symbols.new ≡ with_more_internals symbols.old (map (λ x. (x.0.now, x.1)) internals.now)) }
+    ensures { OnOk result (symbols.new ≡ with_more_internals symbols.old
+        (map (λ x. (x.0.now, x.1)) internals.now)) }
 {
     'internals: for (name, value) in internals {
         let k = symbols.new_internal(*value)?;
@@ -105,7 +107,8 @@ fn add_unbuilt_words(
     symbols: &mut Symbols<Meaning>,
     words: &[&'static [u8]],
 ) -> Result<(), NoMemory>
-    ensures { OnOk result (symbols.new ≡ with_more_names symbols.old (map (λ x. unbuilt_entry x.now) words.now)) }
+    ensures { OnOk result (symbols.new ≡ with_more_names symbols.old
+        (map (λ x. unbuilt_entry x.now) words.now)) }
 {
     'words: for word in words {
         symbols.number_of(word, Meaning::Unbuilt(UnbuiltWord::new(word)))?;

@@ -45,12 +45,12 @@ impl Model for State {
       symbols = s.symbols;
       variables = s.variables;
       slots = s.slots.items;
-      unknowns = s.system;
+      unknowns = s.system.unknowns;
       events = map event_of s.events.items;
       lines = s.lines;
     } };
 
-    ghost invariant = { λ s. IsKept s.past s.count s.system s.variables s.slots.items (map event_of s.events.items) };
+    ghost invariant = { λ s. IsKept s.past s.count s.system.unknowns s.variables s.slots.items (map event_of s.events.items) };
 }
 
 impl State {

@@ -130,7 +130,8 @@ fn is_bracketed(before: Option<Part>, units: i32) -> bool
 
 /// Adds a subscript.
 fn push_subscript(text: &mut Bytes, bracketed: bool, units: i32) -> Result<(), NoMemory>
-    ensures { OnOk result (text.new ≡ text.old ++ suffixes.subscript_text bracketed (printed units)) }
+    ensures { OnOk result (text.new ≡ text.old ++ suffixes.subscript_text bracketed
+        (printed units)) }
 {
     if bracketed {
         text.push(b'[')?;

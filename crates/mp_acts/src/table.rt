@@ -1,10 +1,9 @@
 //! The table of names at any number: past its symbols or internals nothing is read or changed.
 
-ghost use Rattle.std.specs.Prelude.{◌≡◌, [], pos, unwrap_or, cond, nat_lt, length, slice_get, OnOk, OnErr};
+ghost use Rattle.std.specs.Prelude.{◌≡◌, [], pos, unwrap_or, slice_get, OnOk, OnErr};
 ghost use Rattle.mp_symbols.specs.Names.{name_in, meaning_in};
 ghost use Rattle.mp_symbols.specs.Groups as table;
 ghost use Rattle.mp_values.specs.declared.meaning.Meaning.TheVariants.{NewTag};
-ghost use Rattle.mp_acts.specs.Groups.{with_kept};
 
 use mp_scaled::NoMemory;
 use mp_symbols::Symbols;
@@ -47,8 +46,9 @@ pub(crate) fn set_meaning(symbols: &mut Symbols<Meaning>, symbol: u32, new: Mean
 }
 
 /// Makes a symbol a new tag, up to the end of the group.
+#[tactic(auto, using(crate::proofs::TableLemmas::table_steps))]
 pub(crate) fn save(symbols: &mut Symbols<Meaning>, symbol: u32) -> Result<(), NoMemory>
-    ensures ok { OnOk result (symbols.new ≡ cond (nat_lt symbol (length symbols.old.names)) (table.save symbols.old symbol NewTag) symbols.old) }
+    ensures ok { OnOk result (symbols.new ≡ table.save symbols.old symbol NewTag) }
     ensures err { OnErr result (symbols.new ≡ symbols.old) }
 {
     if symbols.has(symbol) {
@@ -78,8 +78,9 @@ pub(crate) fn set_internal(symbols: &mut Symbols<Meaning>, k: u32, value: i32)
 }
 
 /// Keeps the present value of an internal for the end of the group.
+#[tactic(auto, using(crate::proofs::TableLemmas::table_steps))]
 pub(crate) fn keep_internal(symbols: &mut Symbols<Meaning>, k: u32) -> Result<(), NoMemory>
-    ensures ok { OnOk result (symbols.new ≡ with_kept symbols.old k) }
+    ensures ok { OnOk result (symbols.new ≡ table.save_internal symbols.old k) }
     ensures err { OnErr result (symbols.new ≡ symbols.old) }
 {
     if symbols.has_internal(k) {

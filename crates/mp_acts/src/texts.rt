@@ -88,7 +88,8 @@ impl State {
     ) -> Result<(), NoMemory>
         requires over { reach_of_terms (first.now ∷ more.now) ≤ unknown_count self.now }
         requires coefficients { All (λ t. IsCoefficient t.coefficient) (first.now ∷ more.now) }
-        ensures { OnOk result (text.new ≡ text.old ++ texts.form_text_by self.now.unknowns constant (first.now ∷ more.now)) }
+        ensures { OnOk result (text.new ≡ text.old ++ texts.form_text_by self.now.unknowns constant
+            (first.now ∷ more.now)) }
     {
         self.push_term(text, first_sign(first.coefficient), first)?;
         self.push_terms(text, more)?;
@@ -112,7 +113,8 @@ impl State {
     fn push_term(&self, text: &mut Bytes, sign: &[u8], term: &Term) -> Result<(), NoMemory>
         requires over { reach_of_serial term.now.serial ≤ unknown_count self.now }
         requires coefficient { IsCoefficient term.now.coefficient }
-        ensures { OnOk result (text.new ≡ text.old ++ (sign.now ++ texts.unsigned_term self.now.unknowns term.now)) }
+        ensures { OnOk result (text.new ≡ text.old
+            ++ (sign.now ++ texts.unsigned_term self.now.unknowns term.now)) }
     {
         text.append(sign)?;
         push_multiple(text, coefficient_units(term.coefficient))?;

@@ -1,7 +1,7 @@
 //! The tokens of a file, over the table of names.
 
 ghost use Rattle.std.specs.Prelude.{◌≡◌, ◌+◌, ◌≤◌, length, All, IfOk, OnOk, OnErr};
-ghost use Rattle.mp_tokens.specs.Items.{Item, file_items, tokens_in, IsNumbered};
+ghost use Rattle.mp_tokens.specs.Items.{file_items, tokens_in, IsNumbered};
 ghost use Rattle.mp_acts.specs.State.{unknown_count};
 ghost use Rattle.mp_acts.specs.Tokens.{with_file, GainsSomeNames};
 
@@ -15,7 +15,8 @@ impl State {
     ///
     /// Want of memory leaves the names of some first part of the file in it.
     pub fn tokens_of_file(&mut self, bytes: &[u8]) -> Result<Tokens, NoMemory>
-        ensures tokens { IfOk result (λ tokens. tokens ≡ tokens_in self.new.symbols.names (file_items bytes.now)) }
+        ensures tokens { IfOk result (λ tokens. tokens
+            ≡ tokens_in self.new.symbols.names (file_items bytes.now)) }
         ensures names { OnOk result (self.new ≡ with_file self.old bytes.now) }
         ensures symbols { IfOk result (All (IsNumbered self.new.symbols.names)) }
         ensures length { IfOk result (λ tokens. length tokens ≤ length bytes.now + 1) }

@@ -1,6 +1,6 @@
 //! Variables: their roots, their declarations, how they are read, and what is assigned.
 
-ghost use Rattle.std.specs.Prelude.{ℕ, ◌≡◌, ◌≤◌, ◌<◌, true, [], ◌∷◌, ◌++◌, None, Ok, Err, length, vec_len, vec_capacity, IfOk, IfSome, OnOk, OnErr};
+ghost use Rattle.std.specs.Prelude.{ℕ, ◌≡◌, ◌≤◌, ◌<◌, true, [], None, Ok, Err, length, vec_len, vec_capacity, IfOk, IfSome, OnOk, OnErr};
 ghost use Rattle.std.specs.Option.{option_map};
 ghost use Rattle.mp_solver.specs.States.{fresh_of};
 ghost use Rattle.mp_values.specs.Outcome.{Gives, IsWhole, change};
@@ -16,15 +16,15 @@ ghost use Rattle.mp_acts.specs.Variables as variables;
 ghost use Rattle.mp_acts.specs.Variables.{IsReadInPart, IsForgetting, SameButRoots};
 
 use crate::event::Event;
-use crate::limits::UNKNOWN_LIMIT;
 use crate::{State, Target, table};
 use mp_forms::Form;
 use mp_report::{Cap, SourceError};
-use mp_scaled::NoMemory;
-use mp_solver::{Fresh, System};
+use mp_scaled::{Bytes, NoMemory};
+use mp_solver::{Fresh, System, UNKNOWN_LIMIT};
 use mp_values::{Fault, Kind, Meaning, Value};
 use mp_vartree::{Part, Shape, Variable, has_kind, variables_are_a_map};
 use std::alloc::Global;
+use std::snapshot::Snapshot;
 
 impl State {
     /// The name of a symbol; a symbol past the table has the empty one.
@@ -96,7 +96,8 @@ impl State {
 
     /// The value of a variable, if it has one.
     fn value(&self, root: u32, name: &[Part]) -> Option<&Value>
-        ensures held { option_map (λ v. v.now) result ≡ option_map (λ x. x.value) (variable_at self.now.variables root name.now) }
+        ensures held { option_map (λ v. v.now) result
+            ≡ option_map (λ x. x.value) (variable_at self.now.variables root name.now) }
         ensures within { IfSome result (λ v. reach v.now ≤ unknown_count self.now) }
     {
         match self.variables.variable_at(root, name) {
@@ -107,7 +108,8 @@ impl State {
 
     /// Gives a variable an unknown or a slot of its own.
     fn read_anew(&mut self, symbol: u32, root: u32, name: &[Part]) -> Result<Value, Fault>
-        ensures exact { Gives result self.new (variables.value_of symbol root name.now None self.old) }
+        ensures exact { Gives result self.new
+            (variables.value_of symbol root name.now None self.old) }
         ensures part { result ≡ Err WantOfMemory → IsReadInPart symbol name.now self.old self.new }
         ensures within { IfOk result (λ v. reach v ≤ unknown_count self.new) }
         ensures counts { unknown_count self.old ≤ unknown_count self.new }
@@ -129,36 +131,42 @@ impl State {
     /// Makes a variable a new unknown of its name.
     fn new_unknown(&mut self, symbol: u32, root: u32, name: &[Part]) -> Result<Value, Fault>
         requires { wanted_kind self.old.variables root name.now ≡ Kind.Numeric }
-        ensures exact { Gives result self.new (variables.made_value symbol root name.now Kind.Numeric self.old) }
+        ensures exact { Gives result self.new
+            (variables.made_value symbol root name.now Kind.Numeric self.old) }
         ensures part { result ≡ Err WantOfMemory → IsReadInPart symbol name.now self.old self.new }
         ensures within { IfOk result (λ v. reach v ≤ unknown_count self.new) }
         ensures counts { unknown_count self.old ≤ unknown_count self.new }
     {
         let text = self.variable_name(symbol, name)?;
-        match self.fresh_unknown(text.as_slice())? {
+        match self.fresh_unknown(&text)? {
             Fresh::Made(serial) => {
                 let value = unknown_value(self.alloc, serial)?;
                 self.keep_made(root, name, value)
             }
-            Fresh::Limit => Err(Fault::Refused(SourceError::Limit(Cap::Unknowns, UNKNOWN_LIMIT))),
+            Fresh::Limit => {
+                let most = UNKNOWN_LIMIT as u32;
+                Err(Fault::Refused(SourceError::Limit(Cap::Unknowns, most)))
+            }
         }
     }
 
     /// One more unknown of that name, unless there are so many already. Its making is the newest event, for which there
     /// is room before it.
-    fn fresh_unknown(&mut self, name: &[u8]) -> Result<Fresh, NoMemory>
-        ensures exact { IfOk result (λ answer. (answer, self.new.unknowns) ≡ fresh_of self.old.unknowns name.now) }
-        ensures made { (serial : ℕ) → result ≡ Ok (Fresh.Made serial) → self.new ≡ variables.with_unknown self.old self.new.unknowns }
+    fn fresh_unknown(&mut self, name: &Bytes) -> Result<Fresh, NoMemory>
+        ensures exact { IfOk result (λ answer. (answer, self.new.unknowns)
+            ≡ fresh_of self.old.unknowns name.now) }
+        ensures made { (serial : ℕ) → result ≡ Ok (Fresh.Made serial)
+            → self.new ≡ variables.with_unknown self.old name.now self.new.unknowns }
         ensures limit { result ≡ Ok Fresh.Limit → self.new ≡ self.old }
         ensures err { OnErr result (self.new ≡ self.old) }
         ensures within { IfOk result (λ answer. reach_of_fresh answer ≤ unknown_count self.new) }
         ensures counts { unknown_count self.old ≤ unknown_count self.new }
     {
         self.events.reserve(1)?;
-        let answer = self.system.fresh(name)?;
+        let answer = self.system.fresh(name.as_slice())?;
         if let Fresh::Made(_) = answer {
             self.count += 1;
-            self.events.push_reserved(Event::Fresh);
+            self.events.push_reserved(Event::Fresh(Snapshot::of(name)));
         }
         Ok(answer)
     }
@@ -188,7 +196,8 @@ impl State {
     /// Gives a variable a value that was made for it.
     fn keep_made(&mut self, root: u32, name: &[Part], value: Value) -> Result<Value, Fault>
         requires within { reach value ≤ unknown_count self.old }
-        requires fits { is_kind (wanted_kind self.old.variables root name.now) (kind_of value) ≡ true }
+        requires fits { is_kind (wanted_kind self.old.variables root name.now) (kind_of value)
+            ≡ true }
         ensures exact { Gives result self.new (variables.read_anew self.old root name.now value) }
         ensures whole { IsWhole result self.old self.new }
         ensures within { IfOk result (λ v. reach v ≤ unknown_count self.new) }
@@ -218,7 +227,8 @@ impl State {
 
     /// The root that a symbol has, or the next, which is used up.
     fn root_for(&mut self, symbol: u32) -> Result<u32, Fault>
-        ensures exact { Gives result self.new (variables.root_for (symbol_meaning self.old symbol) self.old) }
+        ensures exact { Gives result self.new
+            (variables.root_for (symbol_meaning self.old symbol) self.old) }
         ensures roots { SameButRoots self.old self.new }
         ensures counts { unknown_count self.new ≡ unknown_count self.old }
     {
@@ -230,7 +240,8 @@ impl State {
 
     /// A root that was never given before.
     fn next_root(&mut self) -> Result<u32, NoMemory>
-        ensures exact { IfOk result (λ root. Ok (root, self.new) ≡ variables.root_for NewTag self.old) }
+        ensures exact { IfOk result (λ root. Ok (root, self.new)
+            ≡ variables.root_for NewTag self.old) }
         ensures roots { SameButRoots self.old self.new }
         ensures err { OnErr result (self.new ≡ self.old) }
         ensures counts { unknown_count self.new ≡ unknown_count self.old }
@@ -246,7 +257,8 @@ impl State {
         name: &[Shape],
         kind: Kind,
     ) -> Result<(), Fault>
-        ensures exact { Gives result self.new (variables.declare_root symbol name.now kind root self.old) }
+        ensures exact { Gives result self.new
+            (variables.declare_root symbol name.now kind root self.old) }
         ensures whole { IsWhole result self.old self.new }
         ensures counts { unknown_count self.old ≤ unknown_count self.new }
     {
@@ -316,7 +328,8 @@ impl State {
 
     fn assign_variable(&mut self, root: u32, name: &[Part], value: &Value) -> Result<(), Fault>
         requires { reach value.now ≤ unknown_count self.old }
-        ensures exact { Gives result self.new (variables.assign_variable root name.now value.now self.old) }
+        ensures exact { Gives result self.new
+            (variables.assign_variable root name.now value.now self.old) }
         ensures whole { IsWhole result self.old self.new }
         ensures counts { unknown_count self.old ≤ unknown_count self.new }
     {
@@ -345,8 +358,10 @@ impl State {
     /// Gives a variable another value. The unknowns that were made for it have no names any more.
     fn replace(&mut self, root: u32, name: &[Part], value: Value) -> Result<(), Fault>
         requires within { reach value ≤ unknown_count self.old }
-        requires fits { is_kind (wanted_kind self.old.variables root name.now) (kind_of value) ≡ true }
-        ensures exact { Gives result self.new (change (λ s. variables.replaced s root name.now value) self.old) }
+        requires fits { is_kind (wanted_kind self.old.variables root name.now) (kind_of value)
+            ≡ true }
+        ensures exact { Gives result self.new
+            (change (λ s. variables.replaced s root name.now value) self.old) }
         ensures whole { IsWhole result self.old self.new }
         ensures counts { unknown_count self.old ≤ unknown_count self.new }
     {
@@ -386,7 +401,9 @@ fn room_for_slot(slots: &mut Vec<Option<Value>>) -> Result<u32, NoMemory>
 
 /// Takes the name of an unknown away; a number that is none of an unknown changes nothing.
 fn unname(system: &mut System, serial: u32)
-    ensures { system.new ≡ variables.without_name system.old serial }
+    ensures { system.new ≡ record system.old {
+      unknowns = variables.without_name system.old.unknowns serial;
+    } }
 {
     if system.has_unknown(serial) {
         system.unname(serial);
@@ -395,7 +412,9 @@ fn unname(system: &mut System, serial: u32)
 
 /// Takes the names of unknowns away.
 fn unname_all(system: &mut System, serials: &[u32])
-    ensures { system.new ≡ variables.without_names system.old serials.now }
+    ensures { system.new ≡ record system.old {
+      unknowns = variables.without_names system.old.unknowns serials.now;
+    } }
 {
     'serials: for serial in serials {
         unname(system, *serial);

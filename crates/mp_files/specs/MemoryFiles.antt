@@ -5,8 +5,10 @@ use Rattle.mp_files.specs.declared.outside.Contents.TheVariants.{Absent, Here}
 use Rattle.mp_files.specs.declared.outside.Kept.{Kept}
 use Rattle.mp_files.specs.declared.outside.Fetched.{Fetched}
 use Rattle.mp_files.specs.declared.outside.Fetched.TheVariants as fetched
+use Rattle.mp_files.specs.declared.outside.TheConstants.{MOST_FETCHED}
 use Rattle.mp_files.specs.Contents.{contents_in}
 use Rattle.mp_files.specs.Counts.{next_count, is_listed}
+use Rattle.mp_files.specs.Outside.{faults_after}
 use Rattle.mp_files.specs.Seen.{FilesSeen}
 
 -- the contents by name, the names that were fetched, the calls so far, the calls that fail, and the faults
@@ -27,7 +29,7 @@ files_seen s = record { faults = s.faults; told = Some (record { asked = s.asked
 -- the answer that gives a content
 abbrev pub answer_of : Contents → Fetched
 answer_of Absent = fetched.Absent
-answer_of (Here bytes) = fetched.Got (take 4194305 bytes)
+answer_of (Here bytes) = fetched.Got (take MOST_FETCHED bytes)
 
 -- what the next fetch answers, where memory is found for it
 abbrev pub fetch_answer : FilesState → List ℕ → Fetched
@@ -37,11 +39,6 @@ fetch_answer s name = cond (is_listed s.failing (next_count s.calls)) fetched.Fa
 abbrev pub asked_after : List (List ℕ) → List ℕ → Fetched → List (List ℕ)
 asked_after asked name fetched.NoMemory = asked
 asked_after asked name answer = asked ++ name ∷ []
-
--- the count of faults, after an answer
-abbrev pub faults_after : ℕ → Fetched → ℕ
-faults_after faults fetched.Failed = next_count faults
-faults_after faults answer = faults
 
 -- what the next fetch leaves
 abbrev pub after_fetch : FilesState → List ℕ → Fetched → FilesState

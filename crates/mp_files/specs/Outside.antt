@@ -1,5 +1,5 @@
 -- What a fetch, a put and a write leave, whatever object they are made on.
-use Rattle.std.specs.Prelude.{ℕ, ◌≡◌, List, [], ◌∷◌, ◌++◌, Option, take, MatchOption}
+use Rattle.std.specs.Prelude.{ℕ, ◌≡◌, List, [], ◌∷◌, ◌++◌, ◌≤◌, length, Option, take, MatchOption}
 use Rattle.std.specs.Option.{option_map}
 use Rattle.mp_files.specs.declared.outside.Contents.{Contents}
 use Rattle.mp_files.specs.declared.outside.Contents.TheVariants.{Absent, Here}
@@ -9,8 +9,9 @@ use Rattle.mp_files.specs.declared.outside.Stored.{Stored}
 use Rattle.mp_files.specs.declared.outside.Stored.TheVariants as stored
 use Rattle.mp_files.specs.declared.outside.Written.{Written}
 use Rattle.mp_files.specs.declared.outside.Written.TheVariants as written
+use Rattle.mp_files.specs.declared.outside.TheConstants.{MOST_FETCHED}
 use Rattle.mp_files.specs.Seen.{FilesTold, FilesSeen, ShelfSeen, SinkSeen}
-use Rattle.mp_files.specs.Counts.{Rose}
+use Rattle.mp_files.specs.Counts.{next_count, Rose}
 
 -- an object that tells its list has gained these at its end; one that does not tell still does not
 abbrev pub Gained : {T : Type 0} → Option (List T) → Option (List T) → List T → Type 0
@@ -21,10 +22,10 @@ pub record Asked (before now : Option FilesTold) (names : List (List ℕ)) : Typ
   pub same : option_map (λ t. t.contents) now ≡ option_map (λ t. t.contents) before
   pub more : Gained (option_map (λ t. t.asked) before) (option_map (λ t. t.asked) now) names
 
--- at most the first 4,194,305 bytes
+-- at most the first bytes
 abbrev pub start_of : Contents → Contents
 start_of Absent = Absent
-start_of (Here bytes) = Here (take 4194305 bytes)
+start_of (Here bytes) = Here (take MOST_FETCHED bytes)
 
 -- an answer that gives a content gives this one
 abbrev pub Answers : Contents → Fetched → Type 0
@@ -37,9 +38,14 @@ Answers content fetched.NoMemory = Unit {0}
 abbrev pub AnswersTold : Option FilesTold → List ℕ → Fetched → Type 0
 AnswersTold told name answer = MatchOption told (Unit {0}) (λ t. Answers (t.contents name) answer)
 
--- what a fetch leaves
+-- a count that goes by one where a fetch fails
+abbrev pub faults_after : ℕ → Fetched → ℕ
+faults_after faults fetched.Failed = next_count faults
+faults_after faults answer = faults
+
+-- what a fetch leaves; whether contents are told or not, no more bytes are got than are ever fetched
 abbrev pub FetchGives : FilesSeen → FilesSeen → List ℕ → Fetched → Type 0
-FetchGives before now name (fetched.Got bytes) = (now.faults ≡ before.faults) × Asked before.told now.told (name ∷ []) × AnswersTold before.told name (fetched.Got bytes)
+FetchGives before now name (fetched.Got bytes) = (now.faults ≡ before.faults) × Asked before.told now.told (name ∷ []) × AnswersTold before.told name (fetched.Got bytes) × (length bytes ≤ MOST_FETCHED)
 FetchGives before now name fetched.Absent = (now.faults ≡ before.faults) × Asked before.told now.told (name ∷ []) × AnswersTold before.told name fetched.Absent
 FetchGives before now name fetched.Failed = Rose before.faults now.faults × Asked before.told now.told (name ∷ [])
 FetchGives before now name fetched.NoMemory = (now.faults ≡ before.faults) × Asked before.told now.told []

@@ -6,6 +6,7 @@ ghost use Rattle.std.specs.Option.{option_copied};
 ghost use Rattle.mp_files.specs.Contents.{content_of, contents_in};
 ghost use Rattle.mp_files.specs.Counts.{next_count};
 ghost use Rattle.mp_files.specs.Outside.{FetchGives};
+ghost use Rattle.mp_files.specs.declared.outside.TheConstants.{MOST_FETCHED};
 ghost use Rattle.mp_files.specs.MemoryFiles.{new_files, files_seen, answer_of, fetch_answer, after_fetch};
 
 use crate::room::is_listed;
@@ -111,7 +112,7 @@ pub(crate) fn answer(alloc: Global, contents: Option<&Contents>) -> Result<Fetch
 
 #[tactic(auto, using(std::proofs::lemmas::List::take_min))]
 fn start(alloc: Global, bytes: &[u8]) -> Result<Bytes, NoMemory>
-    ensures { IfOk result (λ b. b ≡ take 4194305 bytes.now) }
+    ensures { IfOk result (λ b. b ≡ take MOST_FETCHED bytes.now) }
 {
     let taken = MOST_FETCHED.min(bytes.len());
     Bytes::copy_of(alloc, &bytes[..taken])

@@ -13,8 +13,8 @@ pub struct NullShelf;
 impl Shelf for NullShelf {
     ghost seen = { λ _. record { faults = 0; pairs = None } };
 
-    fn put(&mut self, _name: &[u8], _bytes: &[u8]) -> Stored
-        ensures gives { PutGives (record { faults = 0; pairs = None }) (record { faults = 0; pairs = None }) _name.now _bytes.now result }
+    fn put(&mut self, name: &[u8], bytes: &[u8]) -> Stored
+        ensures gives { PutGives (record { faults = 0; pairs = None }) (record { faults = 0; pairs = None }) name.now bytes.now result }
         ensures never_fails { result ≡ Stored.Stored }
     {
         Stored::Stored
@@ -28,8 +28,8 @@ pub struct NullSink;
 impl Sink for NullSink {
     ghost seen = { λ _. record { faults = 0; bytes = None } };
 
-    fn write_all(&mut self, _bytes: &[u8]) -> Written
-        ensures gives { WriteGives (record { faults = 0; bytes = None }) (record { faults = 0; bytes = None }) _bytes.now result }
+    fn write_all(&mut self, bytes: &[u8]) -> Written
+        ensures gives { WriteGives (record { faults = 0; bytes = None }) (record { faults = 0; bytes = None }) bytes.now result }
         ensures never_fails { result ≡ Written.Written }
     {
         Written::Written

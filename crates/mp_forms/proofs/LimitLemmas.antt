@@ -1,14 +1,14 @@
 -- What the limits of a form refuse, and in which order.
-use Rattle.std.proofs.Common.{◌≡◌, ◌↔◌, ◌⊎◌, ◌<◌, ◌≤◌, ◌^◌, ℤ, unsigned_abs, Bool, true, false, ltb, List, Result, Ok, Err, refl, sym, ◌∙◌, arith, inl, inr}
+use Rattle.std.proofs.Common.{◌≡◌, get_or, ◌↔◌, ◌⊎◌, ◌<◌, ◌≤◌, ◌^◌, ℤ, unsigned_abs, Bool, true, false, ltb, List, Result, Ok, Err, refl, sym, ◌∙◌, arith, inl, inr}
 use Rattle.std.specs.List.{list_any}
 use Rattle.std.specs.Result.{IfOk, IsErrOf}
-use Rattle.std.proofs.lemmas.Bool.{leb-true, le-leb, ltb-true, ltb-false, lt-ltb, le-ltb, false≢true}
+use Rattle.std.proofs.lemmas.Bool.{leb-true, le-leb, lt-leb, ltb-true, ltb-false, lt-ltb, le-ltb, false≢true}
 use Rattle.std.proofs.lemmas.Result.{IfOk-weaker}
-use Rattle.std.proofs.lemmas.List.Folds.{Any-from_list_any, list_any-from_Any}
+use Rattle.std.proofs.lemmas.List.Folds.{list_any_none, Any-from_list_any, list_any-from_Any}
 use Rattle.mp_pool.specs.declared.Term.{Term}
 use Rattle.mp_forms.specs.declared.fault.FormFault.{FormFault}
 use Rattle.mp_forms.specs.declared.fault.FormFault.TheVariants.{Overflow, CoefficientTooLarge, DivisionByZero}
-use Rattle.mp_forms.specs.Terms.{is_too_large, HasTooLarge}
+use Rattle.mp_forms.specs.Terms.{is_too_large, AreTerms, HasTooLarge}
 use Rattle.mp_forms.specs.Forms.{LinearForm, within_limits}
 
 HasTooLarge-from_any : (terms : List Term) → list_any is_too_large terms ≡ true → HasTooLarge terms
@@ -19,6 +19,10 @@ HasTooLarge-from_any terms e =
 any_from_HasTooLarge : (terms : List Term) → HasTooLarge terms → list_any is_too_large terms ≡ true
 any_from_HasTooLarge terms w =
     list_any-from_Any is_too_large terms (w.0, w.1, w.2, w.3, le-leb (2 ^ 44) (unsigned_abs w.1.coefficient) w.4)
+
+-- no coefficient of a form is too large
+pub terms_are_small : (terms : List Term) → AreTerms terms → list_any is_too_large terms ≡ false
+terms_are_small terms are = list_any_none is_too_large terms (λ i d lt. lt-leb (2 ^ 44) (unsigned_abs (get_or terms i d).coefficient) (are.coefficients i d lt).1)
 
 module _ (constant : ℤ) (terms : List Term) where
   abbrev Fits : Type 0

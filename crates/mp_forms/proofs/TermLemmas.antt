@@ -1,13 +1,13 @@
 -- Terms that are added one after the other, as they come out when two lists are merged by their serials.
-use Rattle.std.proofs.Common.{◌≡◌, ℕ, ◌+◌, ◌<◌, ◌≤◌, ◌^◌, ℤ, ◌+ℤ◌, unsigned_abs, Bool, true, false, cond, leb, ltb, eqb, List, [], ◌∷◌, ◌++◌, length, get_or, take, refl, sym, ap, ◌∙◌, arith, inl, inr}
+use Rattle.std.proofs.Common.{◌≡◌, ℕ, ◌+◌, ◌<◌, ◌≤◌, ◌^◌, ℤ, ◌+ℤ◌, unsigned_abs, Bool, true, false, cond, ltb, eqb, List, [], ◌∷◌, ◌++◌, length, get_or, take, refl, sym, ap, ◌∙◌, arith, inl, inr}
 use Rattle.std.specs.Ordering.{nat_cmp}
 use Rattle.std.specs.declared.cmp.Ordering.TheVariants.{Less, Equal, Greater}
 use Rattle.std.specs.List.{All}
-use Rattle.std.proofs.lemmas.Bool.{lt-ltb, le-ltb, eq-eqb, ne_eqb, cases_order, leb-false, ltb-false}
+use Rattle.std.proofs.lemmas.Bool.{lt-ltb, le-ltb, eq-eqb, ne_eqb, cases_order, ltb-false}
 use Rattle.std.proofs.lemmas.List.{append_assoc, append-nil, flat_map_more, take_more}
 use Rattle.std.proofs.lemmas.List.Elements.{All-nil, All-cons, All-head, All-tail, All-append}
 use Rattle.mp_pool.specs.declared.Term.{Term}
-use Rattle.mp_forms.specs.Terms.{joint_term, lone_term, changed_terms, with_term, sum_terms, SerialsDecrease, IsCoefficient, AreTerms, AreOrdered}
+use Rattle.mp_forms.specs.Terms.{term_from, joint_term, lone_term, changed_terms, with_term, sum_terms, StayInOrder, SerialsDecrease, IsCoefficient, AreTerms, AreOrdered}
 
 -- which of two serials comes first
 less_is : (m n : ℕ) → m < n → nat_cmp m n ≡ Less
@@ -43,10 +43,15 @@ SerialsDecrease-cond : (n serial : ℕ) (b : Bool) (c : ℤ) (ts : List Term) �
 SerialsDecrease-cond n serial true c ts lt below = SerialsDecrease-more serial n ts (omega arith) below
 SerialsDecrease-cond n serial false c ts lt below = (lt, below)
 
+-- a term that stands before all others
+pub sum_terms-first : (change : ℤ → ℤ) (q : Term) (ts qs : List Term) → qs ≡ q ∷ [] → SerialsDecrease q.serial ts → sum_terms change ts qs ≡ lone_term q.serial (change q.coefficient) ++ ts
+unfolding sum_terms
+sum_terms-first change q ts qs is below = ap (sum_terms change ts) is ∙ with_term-above change q ts below
+
 module _ (change : ℤ → ℤ) where
   SerialsDecrease-with_term : (n : ℕ) (q : Term) (ts : List Term) → q.serial < n → SerialsDecrease n ts → SerialsDecrease n (with_term change q ts)
   SerialsDecrease-with_term n q [] lt below =
-      rw (with_term-above change q [] tt) (SerialsDecrease-cond n q.serial (leb (unsigned_abs (change q.coefficient)) 1342) (change q.coefficient) [] lt tt)
+      rw (with_term-above change q [] tt) (SerialsDecrease-cond n q.serial (ltb (unsigned_abs (change q.coefficient)) 1343) (change q.coefficient) [] lt tt)
   SerialsDecrease-with_term n q (t ∷ ts) lt below =
       elim (cases_order t.serial q.serial) [
         | inl same ↦
@@ -54,7 +59,7 @@ module _ (change : ℤ → ℤ) where
             (SerialsDecrease-cond n t.serial (ltb (unsigned_abs (t.coefficient +ℤ change q.coefficient)) 2685) (t.coefficient +ℤ change q.coefficient) ts below.0 below.1)
         | inr (inl less) ↦
             rw (with_term-above change q (t ∷ ts) (less, below.1))
-            (SerialsDecrease-cond n q.serial (leb (unsigned_abs (change q.coefficient)) 1342) (change q.coefficient) (t ∷ ts) lt (less, below.1))
+            (SerialsDecrease-cond n q.serial (ltb (unsigned_abs (change q.coefficient)) 1343) (change q.coefficient) (t ∷ ts) lt (less, below.1))
         | inr (inr more) ↦ rw (with_term-below change q t ts more) (below.0, SerialsDecrease-with_term t.serial q ts more below.1)
       ]
 
@@ -108,13 +113,15 @@ nonzero_cond : (b : Bool) (t : Term) → (b ≡ false → IsNonzero t) → All I
 nonzero_cond true t some = All-nil IsNonzero
 nonzero_cond false t some = All-cons IsNonzero t [] (some refl) (All-nil IsNonzero)
 
+nonzero-term_from : (least serial : ℕ) (c : ℤ) → 0 < least → All IsNonzero (term_from least serial c)
+nonzero-term_from least serial c some =
+    nonzero_cond (ltb (unsigned_abs c) least) (record { serial = serial; coefficient = c }) (λ e. omega (arith, some, ltb-false (unsigned_abs c) least e))
+
 nonzero-lone_term : (serial : ℕ) (c : ℤ) → All IsNonzero (lone_term serial c)
-nonzero-lone_term serial c =
-    nonzero_cond (leb (unsigned_abs c) 1342) (record { serial = serial; coefficient = c }) (λ e. omega (arith, leb-false (unsigned_abs c) 1342 e))
+nonzero-lone_term serial c = nonzero-term_from 1343 serial c (omega arith)
 
 nonzero-joint_term : (serial : ℕ) (c : ℤ) → All IsNonzero (joint_term serial c)
-nonzero-joint_term serial c =
-    nonzero_cond (ltb (unsigned_abs c) 2685) (record { serial = serial; coefficient = c }) (λ e. omega (arith, ltb-false (unsigned_abs c) 2685 e))
+nonzero-joint_term serial c = nonzero-term_from 2685 serial c (omega arith)
 
 module _ (change : ℤ → ℤ) where
   nonzero-with_term : (q : Term) (ts : List Term) → All IsNonzero ts → All IsNonzero (with_term change q ts)
@@ -147,7 +154,7 @@ module _ (change : ℤ → ℤ) where
   SerialsDecrease-changed_terms : (n : ℕ) (ts : List Term) → SerialsDecrease n ts → SerialsDecrease n (changed_terms change ts)
   SerialsDecrease-changed_terms n [] below = tt
   SerialsDecrease-changed_terms n (t ∷ ts) below =
-      SerialsDecrease-cond n t.serial (leb (unsigned_abs (change t.coefficient)) 1342) (change t.coefficient) (changed_terms change ts) below.0
+      SerialsDecrease-cond n t.serial (ltb (unsigned_abs (change t.coefficient)) 1343) (change t.coefficient) (changed_terms change ts) below.0
       (SerialsDecrease-changed_terms t.serial ts below.1)
 
   -- what is made of the terms of forms is in order
@@ -162,6 +169,9 @@ module _ (change : ℤ → ℤ) where
     serials = SerialsDecrease-sum_terms change (2 ^ 32) ps qs left.serials right.serials;
     nonzero = nonzero-sum_terms ps qs (λ k d lt. (left.coefficients k d lt).0);
   }
+
+pub stay_in_order : StayInOrder
+stay_in_order = record { multiples = AreOrdered-changed_terms; sums = AreOrdered-sum_terms }
 
 AreTerms-tail : (t : Term) (ts : List Term) → AreTerms (t ∷ ts) → AreTerms ts
 AreTerms-tail t ts are = record {
@@ -250,3 +260,15 @@ module _ (change : ℤ → ℤ) (left right sum : List Term) where
   unfolding sum_terms
   IsMerging-none_right ps [] none done = append-nil (sum ++ ps) ∙ done.merged
   IsMerging-none_right ps (q ∷ qs) none done = absurd (omega arith)
+
+-- the terms of a form, with one more before them
+AreTerms-cond : (b : Bool) (t : Term) (ts : List Term) → t.serial < 2 ^ 32 → (b ≡ false → 0 < unsigned_abs t.coefficient) → unsigned_abs t.coefficient < 2 ^ 44 → SerialsDecrease t.serial ts → AreTerms ts → AreTerms (cond b [] (t ∷ []) ++ ts)
+AreTerms-cond true t ts within some small below are = are
+AreTerms-cond false t ts within some small below are = record {
+  serials = (within, below);
+  coefficients = All-cons (λ u. IsCoefficient u.coefficient) t ts (some refl, small) are.coefficients;
+}
+
+pub AreTerms-first : (serial : ℕ) (c : ℤ) (ts : List Term) → serial < 2 ^ 32 → unsigned_abs c < 2 ^ 44 → SerialsDecrease serial ts → AreTerms ts → AreTerms (lone_term serial c ++ ts)
+AreTerms-first serial c ts within small below are =
+    AreTerms-cond (ltb (unsigned_abs c) 1343) (record { serial = serial; coefficient = c }) ts within (λ e. omega (arith, ltb-false (unsigned_abs c) 1343 e)) small below are

@@ -32,9 +32,9 @@ abbrev pub sum_of : ℤ → LinearForm → LinearForm → Result LinearForm Form
 sum_of f p q = sum_form (times_fraction f) p q
 
 -- s p, where s is in units of 2^-16
-abbrev pub product_of : ℤ → LinearForm → Result LinearForm FormFault
-product_of s p = changed_form (times_scaled s) p
+abbrev pub form_times_scaled : ℤ → LinearForm → Result LinearForm FormFault
+form_times_scaled s p = changed_form (times_scaled s) p
 
 -- p / s, where s is in units of 2^-16
-abbrev pub quotient_of : ℤ → LinearForm → Result LinearForm FormFault
-quotient_of s p = cond (nat_eq (unsigned_abs s) 0) (Err DivisionByZero) (changed_form (over_scaled s) p)
+abbrev pub form_over_scaled : ℤ → LinearForm → Result LinearForm FormFault
+form_over_scaled s p = cond (nat_eq (unsigned_abs s) 0) (Err DivisionByZero) (changed_form (over_scaled s) p)

@@ -5,13 +5,17 @@ use Rattle.std.specs.List.{flat_map}
 use Rattle.std.specs.Ordering.{nat_cmp, match_ordering}
 use Rattle.mp_pool.specs.declared.Term.{Term}
 
--- the sum of two terms of one serial, as a list; nothing where its magnitude is below 2685
-abbrev pub joint_term : ℕ → ℤ → List Term
-joint_term serial coefficient = cond (nat_lt (unsigned_abs coefficient) 2685) [] (record { serial = serial; coefficient = coefficient } ∷ [])
+-- a term as a list; nothing where its coefficient has a smaller magnitude than this
+abbrev pub term_from : ℕ → ℕ → ℤ → List Term
+term_from least serial coefficient = cond (nat_lt (unsigned_abs coefficient) least) [] (record { serial = serial; coefficient = coefficient } ∷ [])
 
--- any other term with a new coefficient, as a list; nothing where its magnitude is at most 1342
+-- the sum of two terms of one serial; nothing where its magnitude is below 2685
+abbrev pub joint_term : ℕ → ℤ → List Term
+joint_term serial coefficient = term_from 2685 serial coefficient
+
+-- any other term with a new coefficient; nothing where its magnitude is at most 1342
 abbrev pub lone_term : ℕ → ℤ → List Term
-lone_term serial coefficient = cond (nat_le (unsigned_abs coefficient) 1342) [] (record { serial = serial; coefficient = coefficient } ∷ [])
+lone_term serial coefficient = term_from 1343 serial coefficient
 
 -- terms, each with its coefficient changed
 abbrev pub changed_terms : (ℤ → ℤ) → List Term → List Term
@@ -57,3 +61,8 @@ is_too_large t = nat_le (2 ^ 44) (unsigned_abs t.coefficient)
 -- some coefficient is too large for a form
 abbrev pub HasTooLarge : List Term → Type 0
 HasTooLarge terms = Any (λ t. 2 ^ 44 ≤ unsigned_abs t.coefficient) terms
+
+-- what is made of the terms of forms stands in order again
+pub record StayInOrder : Type 0 where
+  pub multiples : (change : ℤ → ℤ) (ts : List Term) → AreTerms ts → AreOrdered (changed_terms change ts)
+  pub sums : (change : ℤ → ℤ) (ps qs : List Term) → AreTerms ps → AreTerms qs → AreOrdered (sum_terms change ps qs)

@@ -1,14 +1,14 @@
 //! Linear forms.
 
-ghost use Rattle.std.specs.Prelude.{◌≡◌, ◌≢◌, ◌↔◌, ◌<◌, ◌≤◌, ◌^◌, pos, ◌+ℤ◌, unsigned_abs, [], ◌∷◌, IfOk, IsErrOf};
+ghost use Rattle.std.specs.Prelude.{◌≡◌, ◌≢◌, ◌↔◌, ◌<◌, ◌≤◌, ◌^◌, pos, ◌+ℤ◌, unsigned_abs, [], ◌∷◌, ◌++◌, IfOk, IfSome, IsErrOf};
 ghost use Rattle.std.specs.List.{list_any};
 ghost use Rattle.mp_forms.specs.Ratios.{ratio_times, times_fraction, times_scaled, over_scaled};
-ghost use Rattle.mp_forms.specs.Terms.{changed_terms, sum_terms, AreTerms, AreOrdered, HasTooLarge, is_too_large};
-ghost use Rattle.mp_forms.specs.Forms.{within_limits, changed_form, sum_form, sum_of, product_of, quotient_of};
+ghost use Rattle.mp_forms.specs.Terms.{lone_term, changed_terms, sum_terms, SerialsDecrease, AreTerms, AreOrdered, HasTooLarge, is_too_large};
+ghost use Rattle.mp_forms.specs.Forms.{within_limits, changed_form, sum_form, sum_of, form_times_scaled, form_over_scaled};
 
 use crate::FormFault;
 use crate::ratio::{FRACTION_ONE, Ratio};
-use crate::terms::{push_each, sum_of_terms};
+use crate::terms::{push_each, stands_before, sum_of_terms, with_first};
 use mp_pool::Term;
 use mp_scaled::NoMemory;
 use std::alloc::Global;
@@ -57,6 +57,15 @@ fn limited(constant: i64, terms: Vec<Term>) -> Result<Form, FormFault>
     if has_too_large(&terms) {
         return Err(FormFault::CoefficientTooLarge);
     }
+    in_range(constant, terms)
+}
+
+/// The form with that constant and those terms, where the constant is within its limit.
+#[tactic(auto, using(crate::proofs::LimitLemmas::terms_are_small))]
+fn in_range(constant: i64, terms: Vec<Term>) -> Result<Form, FormFault>
+    requires { AreTerms terms.items }
+    ensures { result ≡ within_limits constant terms.items }
+{
     if constant.unsigned_abs() >= CONSTANT_LIMIT {
         return Err(FormFault::Overflow);
     }
@@ -74,7 +83,8 @@ fn sum_of_constants(ratio: Ratio, left: i32, right: i32) -> i64
 }
 
 impl Form {
-    /// A known number, in units of 2^-16: any that the type holds, also -2^31.
+    /// A known number, in units of 2^-16: any that the type holds. That is also -2^31, which no other call answers:
+    /// a sum, a product or a quotient with it is tested against the limits as any other.
     pub fn constant_of(alloc: Global, value: i32) -> Form
         ensures { result ≡ record { constant = value; terms = [] } }
     {
@@ -162,7 +172,7 @@ impl Form {
     /// A coefficient is dropped where its multiple has a magnitude of at most 1342. A coefficient that is too
     /// large is answered before a constant that is.
     pub fn scale_by(&self, alloc: Global, s: i32) -> Result<Result<Form, FormFault>, NoMemory>
-        ensures exact { IfOk result (λ answer. answer ≡ product_of s self.now) }
+        ensures exact { IfOk result (λ answer. answer ≡ form_times_scaled s self.now) }
         ensures too_large { IfOk result (λ answer. IsErrOf answer FormFault.CoefficientTooLarge
             ↔ HasTooLarge (changed_terms (times_scaled s) self.now.terms)) }
         ensures overflow { IfOk result (λ answer. IsErrOf answer FormFault.Overflow
@@ -178,7 +188,7 @@ impl Form {
     /// A coefficient is dropped where its quotient has a magnitude of at most 1342. Division by zero is
     /// answered before all else, and a coefficient that is too large before a constant that is.
     pub fn divide_by(&self, alloc: Global, s: i32) -> Result<Result<Form, FormFault>, NoMemory>
-        ensures exact { IfOk result (λ answer. answer ≡ quotient_of s self.now) }
+        ensures exact { IfOk result (λ answer. answer ≡ form_over_scaled s self.now) }
         ensures zero { IfOk result (λ answer. IsErrOf answer FormFault.DivisionByZero ↔ (s ≡ pos 0)) }
         ensures too_large { IfOk result (λ answer. IsErrOf answer FormFault.CoefficientTooLarge
             ↔ ((s ≢ pos 0) × HasTooLarge (changed_terms (over_scaled s) self.now.terms))) }
@@ -190,6 +200,71 @@ impl Form {
             return Ok(Err(FormFault::DivisionByZero));
         }
         self.multiplied(alloc, Ratio::over_scaled(s))
+    }
+
+    /// The sum of `add_times`, for which this form is given up.
+    ///
+    /// Where the other form is a new unknown, or another one that stands before all of this form's, its term is put
+    /// before them, and none of them is copied.
+    pub fn into_sum(self, f: i64, other: &Form) -> Result<Result<Form, FormFault>, NoMemory>
+        requires { unsigned_abs f < 2 ^ 44 }
+        ensures exact { IfOk result (λ answer. answer ≡ sum_of f self other.now) }
+        ensures too_large { IfOk result (λ answer. IsErrOf answer FormFault.CoefficientTooLarge
+            ↔ HasTooLarge (sum_terms (times_fraction f) self.terms other.now.terms)) }
+        ensures overflow { IfOk result (λ answer. IsErrOf answer FormFault.Overflow
+            ↔ ((¬ HasTooLarge (sum_terms (times_fraction f) self.terms other.now.terms))
+            × (2 ^ 31 ≤ unsigned_abs (self.constant +ℤ times_fraction f other.now.constant)))) }
+        ensures undivided { IfOk result (λ answer. ¬ IsErrOf answer FormFault.DivisionByZero) }
+    {
+        self.into_plus_multiple(Ratio::fraction(f), other)
+    }
+
+    fn into_plus_multiple(
+        self,
+        ratio: Ratio,
+        other: &Form,
+    ) -> Result<Result<Form, FormFault>, NoMemory>
+        ensures { IfOk result (λ answer. answer
+            ≡ sum_form (ratio_times ratio.numerator ratio.denominator) self other.now) }
+    {
+        match self.first_of(other) {
+            Some(q) => {
+                let constant = sum_of_constants(ratio, self.constant, other.constant);
+                self.with_first(constant, q.serial, ratio.times(q.coefficient))
+            }
+            None => {
+                let alloc = *self.terms.allocator();
+                self.plus_multiple(alloc, ratio, other)
+            }
+        }
+    }
+
+    /// The only term of the other form, where it stands before all of this one.
+    fn first_of(&self, other: &Form) -> Option<Term>
+        ensures { IfSome result (λ q. (other.now.terms ≡ q ∷ []) × SerialsDecrease q.serial self.now.terms) }
+    {
+        if other.terms.len() == 1 && stands_before(other.terms[0].serial, &self.terms) {
+            Some(other.terms[0])
+        } else {
+            None
+        }
+    }
+
+    /// These terms, with another constant and one more term before them, where that is within the limits.
+    fn with_first(
+        self,
+        constant: i64,
+        serial: u32,
+        coefficient: i64,
+    ) -> Result<Result<Form, FormFault>, NoMemory>
+        requires { SerialsDecrease serial self.terms }
+        ensures { IfOk result (λ answer. answer ≡ within_limits constant (lone_term serial coefficient ++ self.terms)) }
+    {
+        if coefficient.unsigned_abs() >= COEFFICIENT_LIMIT {
+            return Ok(Err(FormFault::CoefficientTooLarge));
+        }
+        let terms = with_first(self.terms, serial, coefficient)?;
+        Ok(in_range(constant, terms))
     }
 
     fn plus_multiple(

@@ -8,8 +8,10 @@
 
 mod fault;
 mod form;
+mod laws;
 mod ratio;
 mod terms;
 
 pub use fault::FormFault;
 pub use form::Form;
+pub use laws::terms_stay_in_order;

@@ -1,8 +1,8 @@
 //! Lists of terms, and how they are added.
 
-ghost use Rattle.std.specs.Prelude.{◌≡◌, ◌++◌, IfOk, OnOk};
+ghost use Rattle.std.specs.Prelude.{◌≡◌, ◌++◌, IfOk, OnOk, IsTrue};
 ghost use Rattle.mp_forms.specs.Ratios.{ratio_times};
-ghost use Rattle.mp_forms.specs.Terms.{joint_term, lone_term, changed_terms, sum_terms, AreTerms};
+ghost use Rattle.mp_forms.specs.Terms.{term_from, lone_term, changed_terms, sum_terms, SerialsDecrease, AreTerms};
 
 use crate::ratio::Ratio;
 use mp_pool::Term;
@@ -10,28 +10,23 @@ use mp_scaled::NoMemory;
 use std::alloc::Global;
 use std::cmp::Ordering;
 
-/// The sum of two coefficients is dropped below this magnitude.
-const THRESHOLD: u64 = 2685;
+/// The sum of two coefficients stays from this magnitude on.
+const LEAST_JOINT: u64 = 2685;
 
-/// Any other new coefficient is dropped up to this magnitude.
-const HALF_THRESHOLD: u64 = 1342;
+/// Any other new coefficient stays from this magnitude on.
+const LEAST_LONE: u64 = 1343;
 
-fn push_joint(terms: &mut Vec<Term>, serial: u32, coefficient: i64) -> Result<(), NoMemory>
-    ensures { OnOk result (terms.new.items ≡ terms.old.items ++ joint_term serial coefficient) }
+/// Appends a term whose coefficient has at least this magnitude, and no other.
+#[inline(always)]
+fn push_from(
+    terms: &mut Vec<Term>,
+    least: u64,
+    serial: u32,
+    coefficient: i64,
+) -> Result<(), NoMemory>
+    ensures { OnOk result (terms.new.items ≡ terms.old.items ++ term_from least serial coefficient) }
 {
-    if coefficient.unsigned_abs() >= THRESHOLD {
-        terms.push(Term {
-            serial,
-            coefficient,
-        })?;
-    }
-    Ok(())
-}
-
-fn push_lone(terms: &mut Vec<Term>, serial: u32, coefficient: i64) -> Result<(), NoMemory>
-    ensures { OnOk result (terms.new.items ≡ terms.old.items ++ lone_term serial coefficient) }
-{
-    if coefficient.unsigned_abs() > HALF_THRESHOLD {
+    if coefficient.unsigned_abs() >= least {
         terms.push(Term {
             serial,
             coefficient,
@@ -48,7 +43,7 @@ pub fn push_each(to: &mut Vec<Term>, ratio: Ratio, terms: &[Term]) -> Result<(),
         ≡ to.old.items ++ changed_terms (ratio_times ratio.numerator ratio.denominator) terms.now) }
 {
     for term in terms {
-        push_lone(to, term.serial, ratio.times(term.coefficient))?;
+        push_from(to, LEAST_LONE, term.serial, ratio.times(term.coefficient))?;
     }
     Ok(())
 }
@@ -78,16 +73,13 @@ pub fn sum_of_terms(
                 on_left = ps;
             }
             Ordering::Equal => {
-                push_joint(
-                    &mut sum,
-                    p.serial,
-                    p.coefficient + ratio.times(q.coefficient),
-                )?;
+                let coefficient = p.coefficient + ratio.times(q.coefficient);
+                push_from(&mut sum, LEAST_JOINT, p.serial, coefficient)?;
                 on_left = ps;
                 on_right = qs;
             }
             Ordering::Less => {
-                push_lone(&mut sum, q.serial, ratio.times(q.coefficient))?;
+                push_from(&mut sum, LEAST_LONE, q.serial, ratio.times(q.coefficient))?;
                 on_right = qs;
             }
         }
@@ -95,4 +87,30 @@ pub fn sum_of_terms(
     sum.extend_from_slice(on_left)?;
     push_each(&mut sum, ratio, on_right)?;
     Ok(sum)
+}
+
+/// Whether all of these terms have lower serials.
+pub fn stands_before(serial: u32, terms: &[Term]) -> bool
+    requires { AreTerms terms.now }
+    ensures { IsTrue result → SerialsDecrease serial terms.now }
+{
+    match terms.first() {
+        Some(first) => first.serial < serial,
+        None => true,
+    }
+}
+
+/// The terms with one more before them, but where its coefficient is too small to stay.
+pub fn with_first(terms: Vec<Term>, serial: u32, coefficient: i64) -> Result<Vec<Term>, NoMemory>
+    ensures { IfOk result (λ all. all.items ≡ lone_term serial coefficient ++ terms.items) }
+{
+    let first = Term {
+        serial,
+        coefficient,
+    };
+    let mut all = terms;
+    if coefficient.unsigned_abs() >= LEAST_LONE {
+        all.insert(0, first)?;
+    }
+    Ok(all)
 }

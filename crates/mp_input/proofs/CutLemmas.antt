@@ -5,8 +5,10 @@ use Rattle.std.specs.List.{position_or_len, slice_range}
 use Rattle.mp_tokens.specs.declared.token.Token.{Token}
 use Rattle.mp_tokens.specs.declared.token.Token.TheVariants as token
 use Rattle.mp_values.specs.declared.turn.Pending.{Pending}
+use Rattle.mp_values.specs.Items.{file_items}
+use Rattle.std.proofs.Math.Seq.{drop-nil}
 use Rattle.mp_input.specs.Files.{file_left, is_line, EndsAtLine}
-use Rattle.mp_input.specs.Lines.{items_pending, end_file_after_line}
+use Rattle.mp_input.specs.Lines.{items_pending, first_line, end_file_after_line}
 use Rattle.mp_input.proofs.RestLemmas.{file_ends, position_some, range_cut, rest_is}
 
 behind : (x : Token) (xs : List Token) (n : ℕ) → position_or_len is_line (x ∷ xs) ≡ suc n → position_or_len is_line xs ≡ n
@@ -54,3 +56,36 @@ cut_again f at end ts below ended o h small e =
     let l : k < length (slice_range ts at end) = omega (arith, length-take (end - at) (drop at ts), length-drop at ts) in
     let p : Some k ≡ position is_line (slice_range ts at end) = grind (arith, nat_tests) in
     file_ends f at end k ts below ended o (omega arith) p ∙ ap (λ n. items_pending (file_left f ts at n ended) ++ below) s
+
+drop_on : (xs : List Token) (i k j : ℕ) → j ≡ i + k → drop k (drop i xs) ≡ drop j xs
+drop_on [] zero k j e = drop-nil k ∙ sym (drop-nil j)
+drop_on [] (suc i) k j e = drop-nil k ∙ sym (drop-nil j)
+drop_on (x ∷ xs) zero k j e = let same : k ≡ j = omega arith in ap (λ n. drop n (x ∷ xs)) same
+drop_on (x ∷ xs) (suc i) k zero e = absurd (omega arith)
+drop_on (x ∷ xs) (suc i) k (suc j) e = drop_on xs i k j (omega arith)
+
+line_at_last : (f : ℕ) (xs : List Token) (k : ℕ) → k ≡ position_or_len is_line xs → k < length xs
+    → first_line (items_pending (file_items f (drop k xs))) ≡ first_line (items_pending (file_items f xs))
+line_at_last f [] k e h = absurd (omega arith)
+line_at_last f (token.Sym s ∷ xs) zero e h = absurd (omega arith)
+line_at_last f (token.Sym s ∷ xs) (suc k) e h = line_at_last f xs k (omega arith) (omega arith)
+line_at_last f (token.Num s ∷ xs) zero e h = absurd (omega arith)
+line_at_last f (token.Num s ∷ xs) (suc k) e h = line_at_last f xs k (omega arith) (omega arith)
+line_at_last f (token.Text s ∷ xs) zero e h = absurd (omega arith)
+line_at_last f (token.Text s ∷ xs) (suc k) e h = line_at_last f xs k (omega arith) (omega arith)
+line_at_last f (token.Bad s ∷ xs) zero e h = absurd (omega arith)
+line_at_last f (token.Bad s ∷ xs) (suc k) e h = line_at_last f xs k (omega arith) (omega arith)
+line_at_last f (token.LineEnd s ∷ xs) zero e h = refl
+line_at_last f (token.LineEnd s ∷ xs) (suc k) e h = absurd (omega arith)
+
+-- the last token that is left is the first end of a line
+pub cut_line : (f at end : ℕ) (ts : List Token) (ended : Bool) → ended ≡ false → at < end → end ≤ length ts → EndsAtLine ts at end
+    → first_line (items_pending (file_items f (slice_range ts (end - 1) end))) ≡ first_line (items_pending (file_left f ts at end ended))
+cut_line f at end ts ended o h small e =
+    let k = end - at - 1 in
+    let p : k ≡ position_or_len is_line (slice_range ts at end) = omega arith in
+    let l : k < length (slice_range ts at end) = omega (arith, length-take (end - at) (drop at ts), length-drop at ts) in
+    let r : drop at (take end ts) ≡ slice_range ts at end = rest_is ts at end (omega arith) in
+    let last : drop (end - 1) (take end ts) ≡ slice_range ts (end - 1) end = rest_is ts (end - 1) end (omega arith) in
+    let d : drop k (slice_range ts at end) ≡ slice_range ts (end - 1) end = ap (drop k) (sym r) ∙ drop_on (take end ts) at k (end - 1) (omega arith) ∙ last in
+    rw (o, r) (ap (λ xs. first_line (items_pending (file_items f xs))) (sym d) ∙ line_at_last f (slice_range ts at end) k p l)

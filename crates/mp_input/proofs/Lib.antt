@@ -5,3 +5,5 @@ mod RestLemmas
 mod SearchLemmas
 mod PlainLemmas
 mod CutLemmas
+mod LawLemmas
+mod Examples

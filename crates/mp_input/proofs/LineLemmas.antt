@@ -1,5 +1,6 @@
 -- On ends of lines and files, and turns, in a list of what is pending.
-use Rattle.std.proofs.Common.{◌≡◌, ◌≤◌, ◌<◌, refl, ap, ℕ, zero, suc, List, [], ◌∷◌, ◌++◌, take, length, get_or, arith, Option, Some, None, option_map, unwrap_or}
+use Rattle.std.proofs.Common.{◌≡◌, ◌+◌, add-one, ◌≤◌, ◌<◌, refl, ap, ℕ, zero, suc, List, [], ◌∷◌, ◌++◌, take, length, get_or, arith, Option, Some, None, option_map, unwrap_or, drop, drop-cons}
+use Rattle.std.proofs.lemmas.List.{drop_all}
 use Rattle.std.specs.List.{position_or_len}
 use Rattle.mp_values.specs.declared.item.Item.{Item}
 use Rattle.mp_values.specs.declared.item.Item.TheVariants as item
@@ -71,19 +72,26 @@ file_line_none f (token.Text s ∷ ts) h = file_line_none f ts (omega arith)
 file_line_none f (token.Bad s ∷ ts) h = file_line_none f ts (omega arith)
 file_line_none f (token.LineEnd s ∷ ts) h = absurd (omega arith)
 
-pub file_line_some : (f : ℕ) (ts : List Token) (k : ℕ) (d : Token) → k ≡ position_or_len is_line ts → k < length ts
-    → first_line (items_pending (file_items f ts)) ≡ option_map (λ l. place_at f l) (line_of (get_or ts k d))
-file_line_some f [] k d e h = absurd (omega arith)
-file_line_some f (token.Sym s ∷ ts) zero d e h = absurd (omega arith)
-file_line_some f (token.Sym s ∷ ts) (suc k) d e h = file_line_some f ts k d (omega arith) (omega arith)
-file_line_some f (token.Num s ∷ ts) zero d e h = absurd (omega arith)
-file_line_some f (token.Text s ∷ ts) zero d e h = absurd (omega arith)
-file_line_some f (token.Bad s ∷ ts) zero d e h = absurd (omega arith)
-file_line_some f (token.Num s ∷ ts) (suc k) d e h = file_line_some f ts k d (omega arith) (omega arith)
-file_line_some f (token.Text s ∷ ts) (suc k) d e h = file_line_some f ts k d (omega arith) (omega arith)
-file_line_some f (token.Bad s ∷ ts) (suc k) d e h = file_line_some f ts k d (omega arith) (omega arith)
-file_line_some f (token.LineEnd s ∷ ts) zero d e h = refl
-file_line_some f (token.LineEnd s ∷ ts) (suc k) d e h = absurd (omega arith)
+-- tokens of a file from one of them on
+line_of_first : (f : ℕ) (t : Token) (ts : List Token) → first_line (items_pending (file_items f (t ∷ ts))) ≡ option_or (option_map (place_at f) (line_of t)) (first_line (items_pending (file_items f ts)))
+line_of_first f (token.Sym s) ts = refl
+line_of_first f (token.Num s) ts = refl
+line_of_first f (token.Text s) ts = refl
+line_of_first f (token.Bad s) ts = refl
+line_of_first f (token.LineEnd s) ts = refl
+
+pub line_is_found : (f i l : ℕ) (ts : List Token) (t : Token) → i < length ts → t ≡ get_or ts i t → line_of t ≡ Some l
+    → first_line (items_pending (file_items f (drop i ts))) ≡ Some (place_at f l)
+line_is_found f i l ts t h is line =
+    rw (drop-cons ts i t h, ← is, line_of_first f t (drop (suc i) ts), line) refl
+
+pub line_is_passed : (f i : ℕ) (ts : List Token) (t : Token) → i < length ts → t ≡ get_or ts i t → line_of t ≡ None
+    → first_line (items_pending (file_items f (drop i ts))) ≡ first_line (items_pending (file_items f (drop (i + 1) ts)))
+line_is_passed f i ts t h is line =
+    rw (drop-cons ts i t h, ← is, line_of_first f t (drop (suc i) ts), line, add-one) refl
+
+pub line_is_none : (f i : ℕ) (ts : List Token) → length ts ≤ i → first_line (items_pending (file_items f (drop i ts))) ≡ None
+line_is_none f i ts h = rw (drop_all i ts h) refl
 
 -- items are no turns
 pub items_leave_no_loop : (xs : List Item) → leave_loop (items_pending xs) ≡ None

@@ -1,11 +1,14 @@
 -- Texts hold no ends of lines.
-use Rattle.std.proofs.Common.{◌≡◌, refl, ℕ, zero, suc, List, [], ◌∷◌, ◌++◌, None, unwrap_or, slice_get}
+use Rattle.std.proofs.Common.{◌≡◌, refl, ℕ, zero, suc, List, [], ◌∷◌, ◌++◌, None, unwrap_or, slice_get, sym, ap, Some}
 use Rattle.mp_values.specs.declared.item.Item.{Item}
 use Rattle.mp_values.specs.declared.item.Item.TheVariants as item
+use Rattle.mp_values.specs.declared.turn.Pending.{Pending}
 use Rattle.mp_values.specs.declared.turn.Pending.TheVariants as pending
 use Rattle.mp_values.specs.Ends.{IsNoEnd, NoEnds, AllNoEnds}
 use Rattle.mp_values.specs.Substitution.{stands_for, substitute}
-use Rattle.mp_input.specs.Lines.{items_pending, first_line}
+use Rattle.mp_input.specs.Lines.{items_pending, line_in, first_line, last_after}
+use Rattle.std.specs.Option.{option_or}
+use Rattle.mp_report.specs.declared.place.Place.{Place}
 
 no_ends_line : (xs : List Item) → NoEnds xs → first_line (items_pending xs) ≡ None
 no_ends_line [] h = refl
@@ -48,3 +51,9 @@ substitute_has_no_line body args h k = no_ends_line (substitute body args) (subs
 
 pub item_is_no_line : (x : Item) → IsNoEnd x → first_line (pending.Item x ∷ []) ≡ None
 item_is_no_line x h = no_ends_line (x ∷ []) (h, tt)
+
+-- what is plain gives no end of a line
+pub no_line_is_last : (text rest : List Pending) (x : Pending) (last : Place) → first_line text ≡ None → text ≡ x ∷ rest → last_after x last ≡ last
+no_line_is_last text rest x last none is =
+    let e : option_or (line_in x) (first_line rest) ≡ None = cc (ap first_line (sym is), none) in
+    (elim (line_in x) as (λ o. option_or o (first_line rest) ≡ None → unwrap_or o last ≡ last) [ None ↦ λ e. refl | Some p ↦ λ e. cc ]) e

@@ -1,14 +1,14 @@
 -- On the rest of a file that is left.
-use Rattle.std.proofs.Common.{◌≡◌, ◌≤◌, ◌<◌, ◌∙◌, sym, ap, ℕ, suc, ◌+◌, ◌-◌, List, ◌++◌, take, drop, length, get_or, arith, Bool, false, Option, Some, None, take-take, length-take, position, option_map}
+use Rattle.std.proofs.Common.{◌≡◌, ◌≤◌, ◌<◌, ◌∙◌, sym, ap, ℕ, suc, ◌+◌, ◌-◌, List, ◌++◌, take, drop, length, arith, Bool, false, Some, None, take-take, length-take, position}
 use Rattle.std.proofs.lemmas.Bool.Decides.{nat_tests}
 use Rattle.std.proofs.lemmas.List.{drop-take}
 use Rattle.std.specs.List.{position_or_len, slice_range}
 use Rattle.mp_tokens.specs.declared.token.Token.{Token}
 use Rattle.mp_values.specs.declared.turn.Pending.{Pending}
 use Rattle.mp_values.specs.Items.{file_items}
-use Rattle.mp_input.specs.Files.{file_left, is_line, line_of, place_at}
+use Rattle.mp_input.specs.Files.{file_left, is_line}
 use Rattle.mp_input.specs.Lines.{items_pending, first_line, end_file_after_line}
-use Rattle.mp_input.proofs.LineLemmas.{file_cut, file_line_none, file_line_some}
+use Rattle.mp_input.proofs.LineLemmas.{file_cut, file_line_none}
 
 pub position_some : (xs : List Token) (k : ℕ) → Some k ≡ position is_line xs → (k ≡ position_or_len is_line xs) × (position_or_len is_line xs < length xs)
 position_some xs k e = (grind (arith, nat_tests), grind (arith, nat_tests))
@@ -26,13 +26,6 @@ pub file_none : (f at end : ℕ) (ts : List Token) (ended : Bool) → ended ≡ 
     → first_line (items_pending (file_left f ts at end ended)) ≡ None
 file_none f at end ts ended o h e = rw (o, rest_is ts at end h) (file_line_none f (slice_range ts at end) (position_none (slice_range ts at end) e))
 
-pub file_some : (f at end k : ℕ) (ts : List Token) (d : Token) (ended : Bool) → ended ≡ false → at ≤ end → Some k ≡ position is_line (slice_range ts at end)
-    → first_line (items_pending (file_left f ts at end ended)) ≡ option_map (λ l. place_at f l) (line_of (get_or (slice_range ts at end) k d))
-file_some f at end k ts d ended o h e =
-    let p = position_some (slice_range ts at end) k e in
-    let q : k < length (slice_range ts at end) = omega arith in
-    rw (o, rest_is ts at end h) (file_line_some f (slice_range ts at end) k d p.0 q)
-
 -- the range through the first end of a line
 pub range_cut : (ts : List Token) (at end k : ℕ) → k < length (slice_range ts at end) → take (suc k) (slice_range ts at end) ≡ drop at (take (at + k + 1) ts)
 range_cut ts at end k h =
@@ -48,10 +41,3 @@ file_ends f at end k ts below ended o h e =
     let c = range_cut ts at end k q in
     rw (o, rest_is ts at end h)
     (file_cut f (slice_range ts at end) k below p.0 q ∙ ap (λ xs. items_pending (file_items f xs) ++ below) c)
-
--- the same of a token by itself
-pub file_says : (f at end k : ℕ) (ts xs : List Token) (d : Token) (ended : Bool) (o : Option ℕ) → ended ≡ false → at ≤ end → xs ≡ ts
-    → Some k ≡ position is_line (slice_range xs at end) → d ≡ get_or (slice_range xs at end) k d → o ≡ line_of d
-    → option_map (λ l. place_at f l) o ≡ first_line (items_pending (file_left f ts at end ended))
-file_says f at end k ts xs d ended o q h same e is line =
-    ap (option_map (λ l. place_at f l)) (line ∙ ap line_of is) ∙ sym (file_some f at end k xs d ended q h e) ∙ ap (λ t. first_line (items_pending (file_left f t at end ended))) same

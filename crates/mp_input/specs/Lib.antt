@@ -6,3 +6,4 @@ pub mod Texts
 pub mod Files
 pub mod Entries
 pub mod Search
+pub mod Laws

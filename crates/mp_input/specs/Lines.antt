@@ -1,5 +1,5 @@
 -- The ends of lines and of files in the text that is left.
-use Rattle.std.specs.Prelude.{List, [], ◌∷◌, map, Option, Some, None, unwrap_or}
+use Rattle.std.specs.Prelude.{Bool, true, false, if◌then◌else◌, List, [], ◌∷◌, map, Option, Some, None, unwrap_or}
 use Rattle.std.specs.Option.{option_or}
 use Rattle.mp_report.specs.declared.place.Place.{Place}
 use Rattle.mp_values.specs.declared.item.Item as item
@@ -29,11 +29,14 @@ place_in text last = unwrap_or (first_line text) last
 abbrev pub last_after : Pending → Place → Place
 last_after x last = unwrap_or (line_in x) last
 
+abbrev pub is_file_end : Pending → Bool
+is_file_end (Item FileEnd) = true
+is_file_end x = false
+
 -- the text from the first end of a file on
 abbrev pub from_file_end : List Pending → Option (List Pending)
 from_file_end [] = None
-from_file_end (Item FileEnd ∷ text) = Some (Item FileEnd ∷ text)
-from_file_end (x ∷ text) = from_file_end text
+from_file_end (x ∷ text) = if is_file_end x then Some (x ∷ text) else from_file_end text
 
 -- behind an end of a line the text goes on at the next end of a file, if there is one; behind anything else, as it is
 abbrev pub ended_behind : Option Place → List Pending → List Pending → List Pending

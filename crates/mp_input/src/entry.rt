@@ -5,14 +5,13 @@ ghost use Rattle.mp_input.specs.Entries.{entry_items, IsPlain};
 ghost use Rattle.mp_input.specs.Lines.{first_line};
 ghost use Rattle.mp_input.specs.Loops.{leave_loop};
 ghost use Rattle.mp_input.specs.Search.{EndsAfterLine};
-ghost use Rattle.mp_input.specs.Taken.{TakenFrom};
+ghost use Rattle.mp_input.specs.Taken.{TakenFrom, last_taken};
 
 use crate::file::FileRest;
 use crate::text::Text;
 use mp_report::Place;
 use mp_scaled::{NoMemory, Shared};
 use mp_values::{Item, Pending, Turn};
-use std::alloc::Global;
 
 /// What is left of what was put in front of the text at once.
 #[derive(Drop)]
@@ -27,14 +26,16 @@ pub(crate) enum Entry {
 }
 
 impl Entry {
-    /// The first of what is left.
-    pub(crate) fn take(&mut self, alloc: Global) -> Result<Option<Pending>, NoMemory>
+    /// The first of what is left. An end of a line, which stands in files alone, becomes the last one that was taken.
+    #[tactic(auto, using(crate::proofs::PlainLemmas::no_line_is_last))]
+    pub(crate) fn take(&mut self, last: &mut Place) -> Result<Option<Pending>, NoMemory>
         ensures taken { TakenFrom (entry_items self.old) result (entry_items self.new) }
+        ensures last { IsPlain self.old → last.new ≡ last_taken result last.old }
         ensures plain { IsPlain self.old → IsPlain self.new }
     {
         match self {
-            Entry::Text(text) => Ok(text.take(alloc)?.map(|i| Pending::Item(i))),
-            Entry::File(file) => Ok(file.take()?.map(|i| Pending::Item(i))),
+            Entry::Text(text) => Ok(text.take()?.map(|i| Pending::Item(i))),
+            Entry::File(file) => Ok(file.take(last)?.map(|i| Pending::Item(i))),
             Entry::One(item) => Ok(item.take().map(|i| Pending::Item(i))),
             Entry::Turn(turn) => Ok(turn.take().map(|t| Pending::Turn(t))),
         }

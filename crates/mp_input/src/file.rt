@@ -5,7 +5,7 @@ ghost use Rattle.mp_values.specs.Items.{file_items};
 ghost use Rattle.mp_values.specs.declared.turn.Pending.{Pending};
 ghost use Rattle.mp_input.specs.Files.{is_line, line_of};
 ghost use Rattle.mp_input.specs.Lines.{items_pending, first_line, end_file_after_line};
-ghost use Rattle.mp_input.specs.Taken.{TakenFrom};
+ghost use Rattle.mp_input.specs.Taken.{TakenFrom, last_item};
 
 use mp_report::Place;
 use mp_scaled::{NoMemory, Shared};
@@ -54,6 +54,20 @@ fn line_of(token: &Token) -> Option<u32>
     }
 }
 
+// The first end of a line of tokens of that file.
+#[tactic(auto, using(crate::proofs::LineLemmas::line_is_found, crate::proofs::LineLemmas::line_is_passed, crate::proofs::LineLemmas::line_is_none))]
+fn first_line_of(file: u32, tokens: &[Token]) -> Option<Place>
+    ensures { result ≡ first_line (items_pending (file_items file tokens.now)) }
+{
+    'tokens: for token in tokens {
+        match line_of(token) {
+            Some(line) => return Some(Place { file, line }),
+            None => (),
+        }
+    }
+    None
+}
+
 // Where the first end of a line is.
 fn line_at(tokens: &[Token]) -> Option<usize>
     ensures { result ≡ position is_line tokens.now }
@@ -77,17 +91,21 @@ impl FileRest {
         }
     }
 
-    /// The first item that is left.
+    /// The first item that is left. An end of a line becomes the last one that was taken.
     #[tactic(auto, using(crate::proofs::CutLemmas::cut_next))]
-    pub(crate) fn take(&mut self) -> Result<Option<Item>, NoMemory>
-        ensures { TakenFrom self.old result self.new }
+    pub(crate) fn take(&mut self, last: &mut Place) -> Result<Option<Item>, NoMemory>
+        ensures taken { TakenFrom self.old result self.new }
+        ensures last { last.new ≡ last_item result last.old }
     {
-        if self.at < self.end && !self.ended {
+        if self.ended {
+            Ok(None)
+        } else if self.at < self.end {
             let item = Item::of(self.file, &self.tokens.get().as_slice()[self.at])?;
             self.at += 1;
+            if let Item::LineEnd(place) = &item {
+                *last = *place;
+            }
             Ok(Some(item))
-        } else if self.ended {
-            Ok(None)
         } else {
             self.ended = true;
             Ok(Some(Item::FileEnd))
@@ -102,24 +120,18 @@ impl FileRest {
     }
 
     /// The first end of a line that is left.
-    #[tactic(auto, using(crate::proofs::RestLemmas::file_none, crate::proofs::RestLemmas::file_some))]
+    #[tactic(auto, using(crate::proofs::RestLemmas::rest_is, crate::proofs::CutLemmas::cut_line))]
     pub(crate) fn first_line(&self) -> Option<Place>
         ensures { result ≡ first_line (items_pending self.now) }
     {
         if self.ended {
             return None;
         }
-        let rest = &self.tokens.get().as_slice()[self.at..self.end];
-        match line_at(rest) {
-            Some(at) => match line_of(&rest[at]) {
-                Some(line) => Some(Place {
-                    file: self.file,
-                    line,
-                }),
-                None => None,
-            },
-            None => None,
+        let tokens = self.tokens.get().as_slice();
+        if self.cut && self.at < self.end {
+            return first_line_of(self.file, &tokens[self.end - 1..self.end]);
         }
+        first_line_of(self.file, &tokens[self.at..self.end])
     }
 
     /// Ends the file after its first end of a line, if it has one.
@@ -127,10 +139,7 @@ impl FileRest {
     pub(crate) fn end_after_line(&mut self)
         ensures { first_line (items_pending self.old) ≢ None → (below : List Pending) → end_file_after_line (items_pending self.old ++ below) ≡ items_pending self.new ++ below }
     {
-        if self.ended {
-            return;
-        }
-        if self.cut && self.at < self.end {
+        if self.ended || (self.cut && self.at < self.end) {
             return;
         }
         match line_at(&self.tokens.get().as_slice()[self.at..self.end]) {

@@ -9,7 +9,7 @@ ghost use Rattle.mp_values.specs.declared.turn.Pending.TheVariants.{Item as Pend
 ghost use Rattle.mp_input.specs.Entries.{entry_items, left_of, IsPlain, AllPlain};
 ghost use Rattle.mp_input.specs.Lines.{items_pending, place_in, end_file_after_line};
 ghost use Rattle.mp_input.specs.Search.{LineEntry, TurnEntry};
-ghost use Rattle.mp_input.specs.Taken.{TakenFrom};
+ghost use Rattle.mp_input.specs.Taken.{TakenFrom, last_taken};
 ghost use Rattle.mp_input.specs.Unread.{Takes, LeavesLoop};
 
 use crate::entry::Entry;
@@ -30,7 +30,6 @@ pub struct NoLoop;
 /// of entries that may still be put in front.
 #[derive(Drop)]
 pub struct Input {
-    alloc: Global,
     // the last one is read first
     entries: Vec<Entry>,
     last: Place,
@@ -55,13 +54,14 @@ impl Model for Input {
 
 // Takes the first of what a stack of entries has left. Entries that are used up are taken off on the way.
 #[tactic(auto, using(crate::proofs::StackLemmas::left_of_dropped, crate::proofs::StackLemmas::left_of_kept, crate::proofs::StackLemmas::left_of_goes, crate::proofs::StackLemmas::all_plain_set_top, crate::proofs::StackLemmas::all_plain_take))]
-fn take_top(alloc: Global, entries: &mut Vec<Entry>) -> Result<Option<Pending>, NoMemory>
+fn take_top(entries: &mut Vec<Entry>, last: &mut Place) -> Result<Option<Pending>, NoMemory>
     ensures taken { TakenFrom (left_of entries.old.items) result (left_of entries.new.items) }
+    ensures last { AllPlain entries.old.items → last.new ≡ last_taken result last.old }
     ensures plain { AllPlain entries.old.items → AllPlain entries.new.items }
 {
     'entries: while !entries.is_empty() {
         let top = entries.len() - 1;
-        match entries[top].take(alloc)? {
+        match entries[top].take(last)? {
             Some(taken) => return Ok(Some(taken)),
             None => {
                 entries.truncate(top);
@@ -145,7 +145,6 @@ impl Input {
         ensures last { result.last ≡ record { file = 0; line = 0 } }
     {
         Input {
-            alloc,
             entries: Vec::new(alloc),
             last: Place { file: 0, line: 0 },
         }
@@ -155,11 +154,7 @@ impl Input {
     pub fn take(&mut self) -> Result<Option<Pending>, NoMemory>
         ensures { Takes self.old result self.new }
     {
-        let taken = take_top(self.alloc, &mut self.entries)?;
-        if let Some(Pending::Item(Item::LineEnd(place))) = &taken {
-            self.last = *place;
-        }
-        Ok(taken)
+        take_top(&mut self.entries, &mut self.last)
     }
 
     /// Whether nothing is left.

@@ -12,6 +12,8 @@
 mod entry;
 mod file;
 mod input;
+mod laws;
 mod text;
 
 pub use input::{Input, NoLoop};
+pub use laws::a_second_mark_changes_nothing;

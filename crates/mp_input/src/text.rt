@@ -4,15 +4,15 @@ ghost use Rattle.std.specs.Prelude.{◌≡◌, ◌↔◌, ◌+◌, ◌<◌, ◌^
 ghost use Rattle.std.specs.Option.{option_copied};
 ghost use Rattle.mp_values.specs.Substitution.{stands_for, substitute};
 ghost use Rattle.mp_input.specs.Taken.{TakenFrom};
+ghost use Rattle.mp_input.specs.Texts.{past, behind};
 
 use mp_scaled::{NoMemory, Shared};
 use mp_values::{Arguments, Item, Items};
-use std::alloc::Global;
 use std::marker::Model;
 
 /// A place in a body.
 #[derive(Clone, Copy, Debug)]
-struct Position {
+pub(crate) struct Position {
     // the item of the body that comes next
     at: usize,
     // how many items of what it stands for were taken
@@ -20,14 +20,25 @@ struct Position {
 }
 
 impl Position {
-    // Behind the item.
+    // Goes to the next item of the body.
     fn pass(&mut self)
         requires { self.old.at + 1 < 2 ^ 64 }
-        ensures at { self.new.at ≡ self.old.at + 1 }
-        ensures inner { self.new.inner ≡ 0 }
+        ensures { self.new ≡ past self.old }
     {
         self.at += 1;
         self.inner = 0;
+    }
+
+    // Goes behind one item that this item of the body gave.
+    fn go(&mut self, item: &Item)
+        requires at { self.old.at + 1 < 2 ^ 64 }
+        requires inner { self.old.inner + 1 < 2 ^ 64 }
+        ensures { self.new ≡ behind item.now self.old }
+    {
+        match item {
+            Item::Param(_) => self.inner += 1,
+            _ => self.pass(),
+        }
     }
 }
 
@@ -46,7 +57,7 @@ impl Model for Text {
 
     ghost Value = { List Item };
 
-    ghost view = { λ t. text_left t.body t.next.at t.next.inner t.arguments };
+    ghost view = { λ t. text_left t.body t.next t.arguments };
 }
 
 // The item at a place.
@@ -84,8 +95,8 @@ impl Text {
     }
 
     /// The first item that is left.
-    #[tactic(auto, using(crate::proofs::TextLemmas::text_goes, crate::proofs::TextLemmas::text_passes, crate::proofs::TextLemmas::text_ends))]
-    pub(crate) fn take(&mut self, alloc: Global) -> Result<Option<Item>, NoMemory>
+    #[tactic(auto, using(crate::proofs::TextLemmas::text_moves, crate::proofs::TextLemmas::text_passes, crate::proofs::TextLemmas::text_ends))]
+    pub(crate) fn take(&mut self) -> Result<Option<Item>, NoMemory>
         ensures { TakenFrom self.old result self.new }
     {
         'items: loop {
@@ -93,8 +104,8 @@ impl Text {
                 Some(item) => {
                     match given(item, self.next.inner, &self.arguments) {
                         Some(found) => {
-                            let taken = found.copy(alloc)?;
-                            self.next.inner += 1;
+                            let taken = found.share()?;
+                            self.next.go(item);
                             return Ok(Some(taken));
                         }
                         None => self.next.pass(),
@@ -106,7 +117,7 @@ impl Text {
     }
 
     /// Whether nothing is left. Parameters that give no more are passed over on the way.
-    #[tactic(auto, using(crate::proofs::TextLemmas::text_goes, crate::proofs::TextLemmas::text_passes, crate::proofs::TextLemmas::text_ends))]
+    #[tactic(auto, using(crate::proofs::TextLemmas::text_moves, crate::proofs::TextLemmas::text_passes, crate::proofs::TextLemmas::text_ends))]
     pub(crate) fn is_over(&mut self) -> bool
         ensures same { self.new ≡ self.old }
         ensures over { IsTrue result ↔ (self.old ≡ []) }

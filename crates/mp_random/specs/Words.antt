@@ -1,15 +1,17 @@
 -- The random words: 55 numbers below 2^28, renewed by taking words that stand apart from one another.
 -- After Knuth, METAFONT: The Program, part 8 (random numbers). Every constant is this project's choice.
 use Rattle.std.specs.Prelude.{ℕ, zero, suc, ◌+◌, ◌-◌, ◌*◌, ◌/◌, ◌%◌, List, true, false, nat_lt, cond, slice_set, slice_index, replicate}
+use Rattle.mp_random.specs.declared.random.TheConstants.{WORDS, MODULUS}
 
--- the words, and the place of the one that was answered last
+-- the words, and how many of them are left to be answered before the next renewal: the first so many, from the last to
+-- the first
 pub record RandomWords : Type 0 where
   pub words : List ℕ
-  pub position : ℕ
+  pub left : ℕ
 
 -- a - b, and 2^28 more where that is negative
 abbrev pub difference : ℕ → ℕ → ℕ
-difference a b = cond (nat_lt a b) (a + 268435456 - b) (a - b)
+difference a b = cond (nat_lt a b) (a + MODULUS - b) (a - b)
 
 -- the words with word k less word m in the place of word k
 abbrev pub replaced : ℕ → ℕ → List ℕ → List ℕ
@@ -32,7 +34,7 @@ renewed words = high_run 31 (low_run 24 words)
 unfoldable pub halved_within : ℕ → ℕ → ℕ
 halved_within zero value = value
 halved_within (suc turns) value =
-    elim (nat_lt value 268435456) [ true ↦ value | false ↦ halved_within turns (value / 2) ]
+    elim (nat_lt value MODULUS) [ true ↦ value | false ↦ halved_within turns (value / 2) ]
 
 abbrev pub halved : ℕ → ℕ
 halved value = halved_within value value
@@ -52,24 +54,24 @@ neighbours (suc n) first = next_neighbours (neighbours n first)
 
 -- before anything is sown
 unfoldable pub unsown : List ℕ
-unsown = replicate 55 0
+unsown = replicate WORDS 0
 
 -- the first n numbers behind the beginning, 21 places apart
 unfoldable pub sown : ℕ → ℕ → List ℕ
 sown zero first = unsown
-sown (suc n) first = slice_set (sown n first) (21 * n % 55) (neighbours n first).newer
+sown (suc n) first = slice_set (sown n first) (21 * n % WORDS) (neighbours n first).newer
 
 -- what a seed gives: the sequence sown, and three renewals
 abbrev pub seeded : ℕ → RandomWords
-seeded value = record { words = renewed (renewed (renewed (sown 55 (halved value)))); position = 54 }
+seeded value = record { words = renewed (renewed (renewed (sown WORDS (halved value)))); left = WORDS - 1 }
 
 -- one word further, with a renewal where no word is left
 abbrev pub advanced : RandomWords → RandomWords
 advanced random =
-    cond (nat_lt 0 random.position)
-    (record { words = random.words; position = random.position - 1 })
-    (record { words = renewed random.words; position = 54 })
+    cond (nat_lt 0 random.left)
+    (record { words = random.words; left = random.left - 1 })
+    (record { words = renewed random.words; left = WORDS - 1 })
 
--- the word that was answered last
+-- the word that was answered last: the one behind those that are left
 abbrev pub current : RandomWords → ℕ
-current random = slice_index random.words random.position
+current random = slice_index random.words random.left

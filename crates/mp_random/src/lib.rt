@@ -8,4 +8,4 @@ mod random;
 #[cfg(test)]
 mod tests;
 
-pub use random::Random;
+pub use random::{MODULUS, Random, WORDS};

@@ -3,32 +3,35 @@
 ghost use Rattle.std.specs.Prelude.{◌≡◌, ℕ, ◌<◌, ◌+◌, ◌*◌, ◌%◌, pos, ◌≤ℤ◌, ◌<ℤ◌, List, slice_index, length};
 ghost use Rattle.std.specs.List.{All};
 ghost use Rattle.mp_random.specs.Words.{difference, replaced, renewed, low_run, high_run, halved, neighbours, unsown, sown, seeded, advanced, current};
+ghost use Rattle.mp_random.specs.declared.random.TheConstants.{WORDS, MODULUS};
 
 use std::marker::Model;
 
 /// How many words there are.
-const WORDS: usize = 55;
+pub const WORDS: usize = 55;
 
 /// Words are below this.
-const MODULUS: u32 = 1 << 28;
+pub const MODULUS: u32 = 1 << 28;
 
-/// The random words, and how many of them are still to be answered.
+/// The random words, and how many of them are left to be answered before the next renewal: the first so many, from
+/// the last to the first.
 #[derive(Drop)]
 pub struct Random {
     words: [u32; WORDS],
-    position: usize,
+    left: usize,
 }
 
 impl Model for Random {
     ghost use Rattle.std.specs.Prelude.{◌<◌, ℕ};
     ghost use Rattle.std.specs.List.{All};
     ghost use Rattle.mp_random.specs.Words.{RandomWords};
+    ghost use Rattle.mp_random.specs.declared.random.TheConstants.{WORDS, MODULUS};
 
     ghost Value = { RandomWords };
 
-    ghost view = { λ r. record { words = r.words; position = r.position } };
+    ghost view = { λ r. record { words = r.words; left = r.left } };
 
-    ghost invariant = { λ r. (r.position < 55) × All (λ w. w < 268435456) r.words };
+    ghost invariant = { λ r. (r.left < WORDS) × All (λ w. w < MODULUS) r.words };
 }
 
 impl Random {
@@ -42,7 +45,7 @@ impl Random {
         renew(&mut words);
         Random {
             words,
-            position: WORDS - 1,
+            left: WORDS - 1,
         }
     }
 
@@ -51,15 +54,15 @@ impl Random {
         ensures words { self.new ≡ advanced self.old }
         ensures answer { result ≡ pos (current self.new) }
         ensures low { pos 0 ≤ℤ result }
-        ensures high { result <ℤ pos 268435456 }
+        ensures high { result <ℤ pos MODULUS }
     {
-        if self.position == 0 {
+        if self.left == 0 {
             renew(&mut self.words);
-            self.position = WORDS - 1;
+            self.left = WORDS - 1;
         } else {
-            self.position -= 1;
+            self.left -= 1;
         }
-        self.words[self.position] as i32
+        self.words[self.left] as i32
     }
 }
 
@@ -67,7 +70,7 @@ impl Random {
 #[tactic(auto, using(crate::proofs::WordLemmas::halving))]
 fn halved_seed(value: u32) -> u32
     ensures exact { result ≡ halved value }
-    ensures small { result < 268435456 }
+    ensures small { result < MODULUS }
 {
     let mut seed = value;
     while seed >= MODULUS {
@@ -78,17 +81,17 @@ fn halved_seed(value: u32) -> u32
 
 /// `a - b`, and 2^28 more where that is negative.
 fn difference(a: u32, b: u32) -> u32
-    requires small_a { a < 268435456 }
-    requires small_b { b < 268435456 }
+    requires small_a { a < MODULUS }
+    requires small_b { b < MODULUS }
     ensures exact { result ≡ difference a b }
-    ensures small { result < 268435456 }
+    ensures small { result < MODULUS }
 {
     if a < b { a + MODULUS - b } else { a - b }
 }
 
 fn unsown_words() -> [u32; WORDS]
     ensures exact { result ≡ unsown }
-    ensures small { All (λ w. w < 268435456) result }
+    ensures small { All (λ w. w < MODULUS) result }
 {
     [0; WORDS]
 }
@@ -96,9 +99,9 @@ fn unsown_words() -> [u32; WORDS]
 /// The sequence that begins with `first` and 1, sown 21 places apart.
 #[tactic(auto, using(crate::proofs::WordLemmas::sowing))]
 fn sown_words(first: u32) -> [u32; WORDS]
-    requires { first < 268435456 }
-    ensures exact { result ≡ sown 55 first }
-    ensures small { All (λ w. w < 268435456) result }
+    requires { first < MODULUS }
+    ensures exact { result ≡ sown WORDS first }
+    ensures small { All (λ w. w < MODULUS) result }
 {
     let mut words = unsown_words();
     let mut older = first;
@@ -114,20 +117,20 @@ fn sown_words(first: u32) -> [u32; WORDS]
 
 /// Takes word `m` from word `k`.
 fn replace(words: &mut [u32; WORDS], k: usize, m: usize)
-    requires inside_k { k < 55 }
-    requires inside_m { m < 55 }
-    requires small { All (λ w. w < 268435456) words.old }
+    requires inside_k { k < WORDS }
+    requires inside_m { m < WORDS }
+    requires small { All (λ w. w < MODULUS) words.old }
     ensures exact { words.new ≡ replaced k m words.old }
-    ensures still_small { All (λ w. w < 268435456) words.new }
+    ensures still_small { All (λ w. w < MODULUS) words.new }
 {
     words[k] = difference(words[k], words[m]);
 }
 
 /// Takes new words in the place of the old ones.
 fn renew(words: &mut [u32; WORDS])
-    requires { All (λ w. w < 268435456) words.old }
+    requires { All (λ w. w < MODULUS) words.old }
     ensures exact { words.new ≡ renewed words.old }
-    ensures small { All (λ w. w < 268435456) words.new }
+    ensures small { All (λ w. w < MODULUS) words.new }
 {
     run_low(words);
     run_high(words);
@@ -136,9 +139,9 @@ fn renew(words: &mut [u32; WORDS])
 /// Takes from each of the first 24 words the word 31 places on.
 #[tactic(auto, using(crate::proofs::WordLemmas::runs))]
 fn run_low(words: &mut [u32; WORDS])
-    requires { All (λ w. w < 268435456) words.old }
+    requires { All (λ w. w < MODULUS) words.old }
     ensures exact { words.new ≡ low_run 24 words.old }
-    ensures small { All (λ w. w < 268435456) words.new }
+    ensures small { All (λ w. w < MODULUS) words.new }
 {
     for n in 0..24 {
         replace(words, n, n + 31);
@@ -148,9 +151,9 @@ fn run_low(words: &mut [u32; WORDS])
 /// Takes from each word from the 24th on the word 24 places before.
 #[tactic(auto, using(crate::proofs::WordLemmas::runs))]
 fn run_high(words: &mut [u32; WORDS])
-    requires { All (λ w. w < 268435456) words.old }
+    requires { All (λ w. w < MODULUS) words.old }
     ensures exact { words.new ≡ high_run 31 words.old }
-    ensures small { All (λ w. w < 268435456) words.new }
+    ensures small { All (λ w. w < MODULUS) words.new }
 {
     for n in 0..31 {
         replace(words, n + 24, n);

@@ -1,3 +1,5 @@
+//! The words of some seeds.
+
 use crate::Random;
 
 const OF_SEED_ZERO: [i32; 200] = [

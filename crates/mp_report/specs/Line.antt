@@ -6,12 +6,12 @@ use Rattle.mp_report.specs.declared.error.Cap.TheVariants.{Nesting, Sources, Sou
 use Rattle.mp_report.specs.declared.error.SourceError.{SourceError}
 use Rattle.mp_report.specs.declared.error.SourceError.TheVariants.{BadCharacter, UnfinishedString, EnormousNumber, NoSuchFile, FileTooLong, FileEndedInText, Unexpected, WrongType, NotKnown, Overflow, DivisionByZero, OutOfDomain, Inconsistent, CoefficientTooLarge, BadArguments, LoneConditionWord, NoLoop, LoneEndgroup, BadSubscript, BadDeclaration, BadPath, PolygonalPen, TeXBlock, BadFont, MissingCharacter, BadDash, UserError, Limit, NotBuilt}
 
--- a value that an error keeps, by how it is shown
-pub data Kept : Type 0 where
-  word : List ℕ → Kept
-  text : List ℕ → Kept
-  number : ℕ → Kept
-  residual : ℤ → Kept
+-- a value that an error carries, by how it is shown
+pub data Detail : Type 0 where
+  word : List ℕ → Detail
+  text : List ℕ → Detail
+  number : ℕ → Detail
+  residual : ℤ → Detail
 
 abbrev pub cap_name : Cap → List ℕ
 cap_name Nesting = codes "Nesting"
@@ -29,8 +29,8 @@ cap_name Figures = codes "Figures"
 cap_name FigureBytes = codes "FigureBytes"
 cap_name Lines = codes "Lines"
 
--- the number, the name and the kept values of an error
-abbrev pub row_of : SourceError → ℕ × List ℕ × List Kept
+-- the number, the name and the details of an error
+abbrev pub row_of : SourceError → ℕ × List ℕ × List Detail
 row_of (BadCharacter byte) = (1, codes "BadCharacter", number byte ∷ [])
 row_of UnfinishedString = (2, codes "UnfinishedString", [])
 row_of EnormousNumber = (3, codes "EnormousNumber", [])
@@ -67,22 +67,22 @@ number_of error = (row_of error).0
 abbrev pub variant_name : SourceError → List ℕ
 variant_name error = (row_of error).1
 
-abbrev pub kept_values : SourceError → List Kept
-kept_values error = (row_of error).2
+abbrev pub details_of : SourceError → List Detail
+details_of error = (row_of error).2
 
--- a kept value behind its space
-abbrev pub kept_text : Kept → List ℕ
-kept_text (word w) = codes " " ++ w
-kept_text (text t) = codes " \"" ++ t ++ codes "\""
-kept_text (number n) = codes " " ++ decimal n
-kept_text (residual r) = codes " " ++ printed r
+-- a detail behind its space
+abbrev pub detail_text : Detail → List ℕ
+detail_text (word w) = codes " " ++ w
+detail_text (text t) = codes " \"" ++ t ++ codes "\""
+detail_text (number n) = codes " " ++ decimal n
+detail_text (residual r) = codes " " ++ printed r
 
-abbrev pub kept_texts : List Kept → List ℕ
-kept_texts [] = []
-kept_texts (k ∷ ks) = kept_text k ++ kept_texts ks
+abbrev pub details_text : List Detail → List ℕ
+details_text [] = []
+details_text (d ∷ ds) = detail_text d ++ details_text ds
 
--- NAME:LINE: error N Variant and the kept values
+-- NAME:LINE: error N Variant and the details
 abbrev pub error_line : SourceError → List ℕ → ℕ → List ℕ
 error_line error name line =
     name ++ codes ":" ++ decimal line ++ codes ": error " ++ decimal (number_of error) ++ codes " "
-    ++ variant_name error ++ kept_texts (kept_values error) ++ codes "\n"
+    ++ variant_name error ++ details_text (details_of error) ++ codes "\n"

@@ -1,3 +1,5 @@
+//! The errors that a source can end by.
+
 use mp_scaled::Bytes;
 
 /// What has a limit.
@@ -35,7 +37,7 @@ pub enum Cap {
 
 /// What a run of a source can end by. Each error has a number, counted from 1 in this order.
 ///
-/// An operator, a word, a reason or a name that is kept has the spelling of the language.
+/// An operator, a word, a reason or a name that it carries has the spelling of the language.
 #[derive(Debug, Drop)]
 pub enum SourceError {
     /// A byte that begins no token.

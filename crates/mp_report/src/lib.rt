@@ -1,6 +1,6 @@
 //! Places in sources, the errors that a source can end by, and the one line that an error prints.
 //!
-//! `NAME:LINE: error N Variant` and what the error keeps, each value after one space: words as they
+//! `NAME:LINE: error N Variant` and the details that the error carries, each after one space: words as they
 //! are, texts in double quotes, whole numbers in decimal, residuals as scaled numbers.
 #![tactic(auto)]
 

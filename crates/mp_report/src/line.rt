@@ -1,5 +1,7 @@
+//! The line of an error.
+
 ghost use Rattle.std.specs.Prelude.{◌≡◌, ◌++◌, OnOk, OnErr, IfOk, decimal};
-ghost use Rattle.mp_report.specs.Line.{word, text, number, residual, cap_name, number_of, variant_name, kept_values, kept_text, kept_texts, error_line};
+ghost use Rattle.mp_report.specs.Line.{word, text, number, residual, cap_name, number_of, variant_name, details_of, detail_text, details_text, error_line};
 
 use crate::{Cap, SourceError};
 use itoa::Buffer;
@@ -33,13 +35,13 @@ fn line_of(alloc: Global, error: &SourceError, name: &[u8], line: u32) -> Result
     write_decimal(number(error), &mut to)?;
     to.append(b" ")?;
     to.append(variant(error))?;
-    write_kept(error, &mut to)?;
+    write_details(error, &mut to)?;
     to.append(b"\n")?;
     Ok(to)
 }
 
-fn write_kept(error: &SourceError, to: &mut Bytes) -> Result<(), NoMemory>
-    ensures { OnOk result (to.new ≡ to.old ++ kept_texts (kept_values error.now)) }
+fn write_details(error: &SourceError, to: &mut Bytes) -> Result<(), NoMemory>
+    ensures { OnOk result (to.new ≡ to.old ++ details_text (details_of error.now)) }
 {
     match error {
         SourceError::NoSuchFile(name)
@@ -73,14 +75,14 @@ fn write_kept(error: &SourceError, to: &mut Bytes) -> Result<(), NoMemory>
 }
 
 fn write_word(value: &[u8], to: &mut Bytes) -> Result<(), NoMemory>
-    ensures { OnOk result (to.new ≡ to.old ++ kept_text (word value.now)) }
+    ensures { OnOk result (to.new ≡ to.old ++ detail_text (word value.now)) }
 {
     to.append(b" ")?;
     to.append(value)
 }
 
 fn write_text(value: &[u8], to: &mut Bytes) -> Result<(), NoMemory>
-    ensures { OnOk result (to.new ≡ to.old ++ kept_text (text value.now)) }
+    ensures { OnOk result (to.new ≡ to.old ++ detail_text (text value.now)) }
 {
     to.append(b" \"")?;
     to.append(value)?;
@@ -88,14 +90,14 @@ fn write_text(value: &[u8], to: &mut Bytes) -> Result<(), NoMemory>
 }
 
 fn write_number(value: u32, to: &mut Bytes) -> Result<(), NoMemory>
-    ensures { OnOk result (to.new ≡ to.old ++ kept_text (number value)) }
+    ensures { OnOk result (to.new ≡ to.old ++ detail_text (number value)) }
 {
     to.append(b" ")?;
     write_decimal(value, to)
 }
 
 fn write_residual(value: i32, to: &mut Bytes) -> Result<(), NoMemory>
-    ensures { OnOk result (to.new ≡ to.old ++ kept_text (residual value)) }
+    ensures { OnOk result (to.new ≡ to.old ++ detail_text (residual value)) }
 {
     let mut digits = [0; 16];
     let end = print_scaled(i64::from(value), &mut digits);

@@ -1,3 +1,5 @@
+//! Rows of `mp_files`: objects in memory, real files, and writers that falter.
+
 use mp_files::{
     Contents, FailAt, Fetched, Files, Kept, MOST_FETCHED, MemoryFiles, MemoryShelf, MemorySink,
     NullShelf, NullSink, RealFiles, RealShelf, Shelf, Sink, Sources, Stored, SureFiles, WriterSink,
@@ -163,7 +165,7 @@ fn shelves_in_memory(rt: HostRuntime) -> Result<(), Fail> {
     Ok(())
 }
 
-/// A file of the system is absent, stored, fetched, too long, and removed; then names are refused.
+/// A file of the system is absent, stored, fetched, too long, and removed.
 #[test]
 fn real_files(rt: HostRuntime) -> Result<(), Fail> {
     let alloc = rt.alloc();
@@ -194,10 +196,16 @@ fn real_files(rt: HostRuntime) -> Result<(), Fail> {
     expect_long_fetch(&rt, alloc, &mut files, path.as_bytes());
     fs::remove_file(&rt, path)?;
     assert_eq!(rt; (files.faults(), shelf.faults()), (0, 0));
+    Ok(())
+}
 
+#[test]
+fn names_that_no_real_file_has(rt: HostRuntime) -> Result<(), Fail> {
+    let mut shelf = RealShelf::new(&rt);
+    let mut files = RealFiles::new(&rt);
     expect_fetches(
         &rt,
-        alloc,
+        rt.alloc(),
         &mut files,
         &[(b".", Answer::Failed), (b"\xff", Answer::Failed)],
     );
@@ -243,6 +251,10 @@ fn sinks_over_writers(rt: HostRuntime) -> Result<(), Fail> {
         expect_writes(&rt, &mut sink, &[(b"abcdef", answer)]);
         assert_eq!(rt; sink.faults(), faults);
     }
+    let long = long_text(rt.alloc(), MOST_FETCHED + 1)?;
+    let steps = Vec::from_slice(rt.alloc(), &[Some(MOST_FETCHED), Some(1)])?;
+    let mut sink = WriterSink::new(Faltering { steps });
+    expect_writes(&rt, &mut sink, &[(long.as_slice(), Written::Written)]);
     let mut sink = WriterSink::new(rt.stdout());
     expect_writes(&rt, &mut sink, &[(b">> 1\n", Written::Written)]);
     Ok(())

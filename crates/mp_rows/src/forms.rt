@@ -5,7 +5,14 @@ use std::test::Fail;
 #[test]
 fn calls_answer_as_their_rows_say(rt: HostRuntime) -> Result<(), Fail> {
     let alloc = rt.alloc();
-    for table in [ROUNDED_SUMS, SMALL_SUMS, LARGE_SUMS, PRODUCTS, QUOTIENTS] {
+    for table in [
+        ROUNDED_SUMS,
+        SMALL_SUMS,
+        LARGE_SUMS,
+        FIRST_TERMS,
+        PRODUCTS,
+        QUOTIENTS,
+    ] {
         for row in table.lines() {
             let (call, want) = row.split_once(" = ").ok_or(UNREADABLE)?;
             let answer = answer(alloc, call)?;
@@ -44,6 +51,30 @@ fn add_times(
 ) -> Result<Result<Form, FormFault>, Fail> {
     if f.unsigned_abs() < 1 << 44 {
         Ok(left.add_times(alloc, f, right)?)
+    } else {
+        Err(Fail::new("a factor that is too large"))
+    }
+}
+
+#[test]
+fn a_sum_whose_left_side_is_given_up_is_the_same(rt: HostRuntime) -> Result<(), Fail> {
+    let alloc = rt.alloc();
+    for table in [ROUNDED_SUMS, SMALL_SUMS, LARGE_SUMS, FIRST_TERMS] {
+        for row in table.lines() {
+            let (call, want) = row.split_once(" = ").ok_or(UNREADABLE)?;
+            let (left, product) = call.split_once(" + ").ok_or(UNREADABLE)?;
+            let (f, right) = product.split_once(" * ").ok_or(UNREADABLE)?;
+            let f = factor(f).ok_or(UNREADABLE)?;
+            let answer = into_sum(form(alloc, left)?, f, &form(alloc, right)?)?;
+            assert!(rt; is_answer(alloc, &answer, want)?, "{row}");
+        }
+    }
+    Ok(())
+}
+
+fn into_sum(left: Form, f: i64, right: &Form) -> Result<Result<Form, FormFault>, Fail> {
+    if f.unsigned_abs() < 1 << 44 {
+        Ok(left.into_sum(f, right)?)
     } else {
         Err(Fail::new("a factor that is too large"))
     }
@@ -142,6 +173,16 @@ const LARGE_SUMS: &str = "\
 0 + 8796093022208 * 268435456 1:536870912 = CoefficientTooLarge
 2147483646 + 268435456 * 1 1:268435456 = 2147483647 1:268435456
 2147483647 + 268435456 * 1 1:268435456 = Overflow
+";
+
+/// A term that stands before all others.
+const FIRST_TERMS: &str = "\
+0 1:268435456 + 1343 * 7 2:268435456 = 0 2:1343 1:268435456
+0 1:268435456 + 1342 * 7 2:268435456 = 0 1:268435456
+3 + 268435456 * 2 5:-268435456 = 5 5:-268435456
+0 1:5000 + 8796093022208 * 0 2:536870910 = 0 2:17592185978880 1:5000
+0 1:5000 + 8796093022208 * 268435456 2:536870912 = CoefficientTooLarge
+2147483647 1:5000 + 268435456 * 1 2:268435456 = Overflow
 ";
 
 /// The number that a form is multiplied by is in units of 2^-16.

@@ -8,6 +8,8 @@ mod files;
 #[cfg(test)]
 mod forms;
 #[cfg(test)]
+mod input;
+#[cfg(test)]
 mod report;
 #[cfg(test)]
 mod roots;

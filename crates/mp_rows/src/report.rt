@@ -1,77 +1,53 @@
+//! Rows of `mp_report`: the line of each error.
+
 use mp_report::{Cap, SourceError, write_error};
 use mp_scaled::{Bytes, NoMemory};
 use std::alloc::Global;
 use std::test::Fail;
 
-/// An error, if there was memory for what it keeps, and the line that it prints.
+/// An error, if there was memory for what it carries, and its line from its number on.
 type Row = (Result<SourceError, NoMemory>, &'static str);
 
-fn rows_that_keep_nothing() -> [Row; 15] {
+/// A source's name, a line of it, and what an error there prints before its number.
+type Where = (&'static str, u32, &'static str);
+
+const IN_A_FILE: Where = ("a.mp", 1, "a.mp:1: error ");
+
+const BEFORE_ANY_LINE: Where = ("mpost", 0, "mpost:0: error ");
+
+fn rows_of_errors_alone() -> [Row; 15] {
     [
-        (
-            Ok(SourceError::UnfinishedString),
-            "a.mp:1: error 2 UnfinishedString\n",
-        ),
-        (
-            Ok(SourceError::EnormousNumber),
-            "a.mp:1: error 3 EnormousNumber\n",
-        ),
-        (
-            Ok(SourceError::FileEndedInText),
-            "a.mp:1: error 6 FileEndedInText\n",
-        ),
-        (Ok(SourceError::Overflow), "a.mp:1: error 10 Overflow\n"),
-        (
-            Ok(SourceError::DivisionByZero),
-            "a.mp:1: error 11 DivisionByZero\n",
-        ),
+        (Ok(SourceError::UnfinishedString), "2 UnfinishedString"),
+        (Ok(SourceError::EnormousNumber), "3 EnormousNumber"),
+        (Ok(SourceError::FileEndedInText), "6 FileEndedInText"),
+        (Ok(SourceError::Overflow), "10 Overflow"),
+        (Ok(SourceError::DivisionByZero), "11 DivisionByZero"),
         (
             Ok(SourceError::CoefficientTooLarge),
-            "a.mp:1: error 14 CoefficientTooLarge\n",
+            "14 CoefficientTooLarge",
         ),
-        (
-            Ok(SourceError::BadArguments),
-            "a.mp:1: error 15 BadArguments\n",
-        ),
-        (
-            Ok(SourceError::LoneConditionWord),
-            "a.mp:1: error 16 LoneConditionWord\n",
-        ),
-        (Ok(SourceError::NoLoop), "a.mp:1: error 17 NoLoop\n"),
-        (
-            Ok(SourceError::LoneEndgroup),
-            "a.mp:1: error 18 LoneEndgroup\n",
-        ),
-        (
-            Ok(SourceError::BadSubscript),
-            "a.mp:1: error 19 BadSubscript\n",
-        ),
-        (
-            Ok(SourceError::BadDeclaration),
-            "a.mp:1: error 20 BadDeclaration\n",
-        ),
-        (
-            Ok(SourceError::PolygonalPen),
-            "a.mp:1: error 22 PolygonalPen\n",
-        ),
-        (Ok(SourceError::TeXBlock), "a.mp:1: error 23 TeXBlock\n"),
-        (Ok(SourceError::BadDash), "a.mp:1: error 26 BadDash\n"),
+        (Ok(SourceError::BadArguments), "15 BadArguments"),
+        (Ok(SourceError::LoneConditionWord), "16 LoneConditionWord"),
+        (Ok(SourceError::NoLoop), "17 NoLoop"),
+        (Ok(SourceError::LoneEndgroup), "18 LoneEndgroup"),
+        (Ok(SourceError::BadSubscript), "19 BadSubscript"),
+        (Ok(SourceError::BadDeclaration), "20 BadDeclaration"),
+        (Ok(SourceError::PolygonalPen), "22 PolygonalPen"),
+        (Ok(SourceError::TeXBlock), "23 TeXBlock"),
+        (Ok(SourceError::BadDash), "26 BadDash"),
     ]
 }
 
-fn rows_that_keep_numbers() -> [Row; 3] {
+fn rows_with_numbers() -> [Row; 3] {
     [
-        (
-            Ok(SourceError::BadCharacter(163)),
-            "a.mp:1: error 1 BadCharacter 163\n",
-        ),
+        (Ok(SourceError::BadCharacter(163)), "1 BadCharacter 163"),
         (
             Ok(SourceError::Inconsistent(-65)),
-            "a.mp:1: error 13 Inconsistent -0.00099\n",
+            "13 Inconsistent -0.00099",
         ),
         (
             Ok(SourceError::Limit(Cap::Nesting, 100)),
-            "a.mp:1: error 28 Limit Nesting 100\n",
+            "28 Limit Nesting 100",
         ),
     ]
 }
@@ -80,40 +56,37 @@ fn bytes(alloc: Global, text: &str) -> Result<Bytes, NoMemory> {
     Bytes::copy_of(alloc, text.as_bytes())
 }
 
-fn rows_that_keep_a_text(alloc: Global) -> [Row; 2] {
+fn rows_with_a_text(alloc: Global) -> [Row; 2] {
     [
         (
             bytes(alloc, "b.mp").map(SourceError::FileTooLong),
-            "a.mp:1: error 5 FileTooLong \"b.mp\"\n",
+            "5 FileTooLong \"b.mp\"",
         ),
         (
             bytes(alloc, "no such path").map(SourceError::UserError),
-            "a.mp:1: error 27 UserError \"no such path\"\n",
+            "27 UserError \"no such path\"",
         ),
     ]
 }
 
-fn rows_that_keep_a_word(alloc: Global) -> [Row; 5] {
+fn rows_with_a_word(alloc: Global) -> [Row; 5] {
     [
         (
             bytes(alloc, "scaled").map(SourceError::WrongType),
-            "a.mp:1: error 8 WrongType scaled\n",
+            "8 WrongType scaled",
         ),
-        (
-            bytes(alloc, "*").map(SourceError::NotKnown),
-            "a.mp:1: error 9 NotKnown *\n",
-        ),
+        (bytes(alloc, "*").map(SourceError::NotKnown), "9 NotKnown *"),
         (
             bytes(alloc, "sqrt").map(SourceError::OutOfDomain),
-            "a.mp:1: error 12 OutOfDomain sqrt\n",
+            "12 OutOfDomain sqrt",
         ),
         (
             bytes(alloc, "Curl").map(SourceError::BadPath),
-            "a.mp:1: error 21 BadPath Curl\n",
+            "21 BadPath Curl",
         ),
         (
             bytes(alloc, "outer").map(SourceError::NotBuilt),
-            "a.mp:1: error 29 NotBuilt outer\n",
+            "29 NotBuilt outer",
         ),
     ]
 }
@@ -130,19 +103,19 @@ fn missing_character(alloc: Global, font: &str, code: u32) -> Result<SourceError
     Ok(SourceError::MissingCharacter(bytes(alloc, font)?, code))
 }
 
-fn rows_that_keep_two_values(alloc: Global) -> [Row; 3] {
+fn rows_with_two_details(alloc: Global) -> [Row; 3] {
     [
         (
             unexpected(alloc, ";", "number"),
-            "a.mp:1: error 7 Unexpected \";\" \"number\"\n",
+            "7 Unexpected \";\" \"number\"",
         ),
         (
             bad_font(alloc, "cmr10", "Short"),
-            "a.mp:1: error 24 BadFont \"cmr10\" Short\n",
+            "24 BadFont \"cmr10\" Short",
         ),
         (
             missing_character(alloc, "cmr10", 120),
-            "a.mp:1: error 25 MissingCharacter \"cmr10\" 120\n",
+            "25 MissingCharacter \"cmr10\" 120",
         ),
     ]
 }
@@ -150,22 +123,26 @@ fn rows_that_keep_two_values(alloc: Global) -> [Row; 3] {
 fn row_before_any_line(alloc: Global) -> Row {
     (
         bytes(alloc, "none.mp").map(SourceError::NoSuchFile),
-        "mpost:0: error 4 NoSuchFile \"none.mp\"\n",
+        "4 NoSuchFile \"none.mp\"",
     )
 }
 
-fn prints(alloc: Global, error: &SourceError, place: (&str, u32), line: &str) -> bool {
-    let (name, number) = place;
-    let mut to = Bytes::new(alloc);
-    write_error(alloc, error, name.as_bytes(), number, &mut to).is_ok()
-        && to.as_slice() == line.as_bytes()
+/// Whether an error there prints that line.
+fn prints(alloc: Global, error: &SourceError, place: Where, line: &str) -> Result<bool, NoMemory> {
+    let (name, number, head) = place;
+    let mut printed = Bytes::new(alloc);
+    write_error(alloc, error, name.as_bytes(), number, &mut printed)?;
+    let mut wanted = bytes(alloc, head)?;
+    wanted.append(line.as_bytes())?;
+    wanted.push(b'\n')?;
+    Ok(printed.as_slice() == wanted.as_slice())
 }
 
 /// Fails with the first line that its error, at that place, does not print.
-fn all_print(alloc: Global, rows: &[Row], place: (&str, u32)) -> Result<(), Fail> {
+fn all_print(alloc: Global, rows: &[Row], place: Where) -> Result<(), Fail> {
     for (error, line) in rows {
         match error {
-            Ok(error) if prints(alloc, error, place, line) => {}
+            Ok(error) if prints(alloc, error, place, line) == Ok(true) => {}
             _ => return Err(Fail::new(*line)),
         }
     }
@@ -173,21 +150,21 @@ fn all_print(alloc: Global, rows: &[Row], place: (&str, u32)) -> Result<(), Fail
 }
 
 #[test]
-fn errors_that_keep_nothing(rt: HostRuntime) -> Result<(), Fail> {
-    all_print(rt.alloc(), &rows_that_keep_nothing(), ("a.mp", 1))
+fn errors_alone(rt: HostRuntime) -> Result<(), Fail> {
+    all_print(rt.alloc(), &rows_of_errors_alone(), IN_A_FILE)
 }
 
 #[test]
-fn errors_that_keep_values(rt: HostRuntime) -> Result<(), Fail> {
+fn errors_with_details(rt: HostRuntime) -> Result<(), Fail> {
     let alloc = rt.alloc();
-    all_print(alloc, &rows_that_keep_numbers(), ("a.mp", 1))?;
-    all_print(alloc, &rows_that_keep_a_text(alloc), ("a.mp", 1))?;
-    all_print(alloc, &rows_that_keep_a_word(alloc), ("a.mp", 1))?;
-    all_print(alloc, &rows_that_keep_two_values(alloc), ("a.mp", 1))
+    all_print(alloc, &rows_with_numbers(), IN_A_FILE)?;
+    all_print(alloc, &rows_with_a_text(alloc), IN_A_FILE)?;
+    all_print(alloc, &rows_with_a_word(alloc), IN_A_FILE)?;
+    all_print(alloc, &rows_with_two_details(alloc), IN_A_FILE)
 }
 
 #[test]
 fn an_error_before_any_line(rt: HostRuntime) -> Result<(), Fail> {
     let alloc = rt.alloc();
-    all_print(alloc, &[row_before_any_line(alloc)], ("mpost", 0))
+    all_print(alloc, &[row_before_any_line(alloc)], BEFORE_ANY_LINE)
 }

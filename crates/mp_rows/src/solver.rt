@@ -53,7 +53,10 @@ fn reduces_to(alloc: Global, system: &System, form: Plain, want: Plain) -> Resul
     if !system.has_unknowns_of(&form) {
         return Ok(false);
     }
-    Ok(is_form(&system.reduce(alloc, &form)??, want))
+    Ok(
+        is_form(&system.reduce(alloc, &form)??, want)
+            && is_form(&system.reduce_owned(alloc, form)??, want),
+    )
 }
 
 /// A system of two unknowns after these equations; none where one comes to something else.

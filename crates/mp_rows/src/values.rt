@@ -1,7 +1,10 @@
 use mp_forms::{Form, FormFault};
-use mp_scaled::{Arith, NoMemory, SharedSlice};
+use mp_report::Place;
+use mp_scaled::{Arith, Listing, NoMemory, Shared, SharedSlice};
 use mp_tokens::{BadToken, FreshMeaning, Token};
-use mp_values::{Command, Item, Meaning, Scaled, Stop, UnbuiltWord, Value, Word};
+use mp_values::{
+    Command, Item, Meaning, Remaining, Scaled, Stop, UnbuiltWord, Value, Values, Word,
+};
 use std::alloc::Global;
 use std::fmt::Debug;
 use std::test::Fail;
@@ -30,6 +33,38 @@ fn copies_of_values(rt: HostRuntime) -> Result<(), Fail> {
     Ok(())
 }
 
+// Contracts say that what is shared is equal; here there is memory for each.
+#[test]
+fn items_once_more(rt: HostRuntime) -> Result<(), Fail> {
+    let alloc = rt.alloc();
+    let value = Shared::new(alloc, Value::Boolean(true))?;
+    let _ = Item::Symbol(1).share()?;
+    let _ = Item::Number(Scaled::new(1)).share()?;
+    let _ = Item::Text(text(alloc)?).share()?;
+    let _ = Item::Bad(BadToken::Unfinished).share()?;
+    let _ = Item::Capsule(value).share()?;
+    let _ = Item::Param(1).share()?;
+    let _ = Item::LineEnd(Place { file: 1, line: 1 }).share()?;
+    let _ = Item::FileEnd.share()?;
+    let _ = Item::EndOfText.share()?;
+    Ok(())
+}
+
+#[test]
+fn what_is_left_of_a_list(rt: HostRuntime) -> Result<(), Fail> {
+    let alloc = rt.alloc();
+    let mut values = Listing::new(alloc);
+    values.push(Value::Boolean(true))?;
+    values.push(Value::Vacuous)?;
+    let both: Values = Remaining::new(alloc, values)?;
+    let second = both.rest()?;
+    let none = second.rest()?;
+    assert!(rt; matches!(both.first(), Some(Value::Boolean(true))));
+    assert!(rt; matches!(second.first(), Some(Value::Vacuous)));
+    assert!(rt; none.first().is_none() && none.rest()?.first().is_none());
+    Ok(())
+}
+
 #[test]
 fn items(rt: HostRuntime) -> Result<(), Fail> {
     all_show(
@@ -54,7 +89,8 @@ fn items(rt: HostRuntime) -> Result<(), Fail> {
 
 #[test]
 fn an_item_with_text(rt: HostRuntime) -> Result<(), Fail> {
-    match Item::of(2, &Token::Text(text(rt.alloc())?))? {
+    let item = Item::of(2, &Token::Text(text(rt.alloc())?))?;
+    match &item {
         Item::Text(bytes) if bytes.as_slice() == b"ab".as_slice() => Ok(()),
         _ => Err(Fail::new("no text")),
     }
@@ -111,19 +147,19 @@ fn stops_with_texts(rt: HostRuntime) -> Result<(), Fail> {
         &[
             (
                 Stop::not_built(alloc, b"a"),
-                "Refused(NotBuilt(Bytes { inner: [97] }))",
+                "Refused(NotBuilt(Listing { inner: [97] }))",
             ),
             (
                 Stop::unexpected(alloc, b"a", b"b"),
-                "Refused(Unexpected(Bytes { inner: [97] }, Bytes { inner: [98] }))",
+                "Refused(Unexpected(Listing { inner: [97] }, Listing { inner: [98] }))",
             ),
             (
                 Stop::wrong_type(alloc, b"a"),
-                "Refused(WrongType(Bytes { inner: [97] }))",
+                "Refused(WrongType(Listing { inner: [97] }))",
             ),
             (
                 Stop::not_known(alloc, b"a"),
-                "Refused(NotKnown(Bytes { inner: [97] }))",
+                "Refused(NotKnown(Listing { inner: [97] }))",
             ),
         ],
     )

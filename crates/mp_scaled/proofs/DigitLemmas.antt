@@ -1,7 +1,7 @@
 -- The digits of a fraction, from the first to the last, and as they are put into an array.
-use Rattle.std.proofs.Common.{◌≡◌, ℕ, zero, suc, ◌+◌, ◌-◌, ◌*◌, ◌/◌, ◌%◌, ◌<◌, ◌≤◌, List, [], ◌∷◌, ◌++◌, length, take, set, arith}
+use Rattle.std.proofs.Common.{◌≡◌, ℕ, zero, suc, ◌+◌, ◌-◌, ◌*◌, ◌/◌, ◌%◌, ◌<◌, ◌≤◌, List, [], ◌∷◌, ◌++◌, length, take, drop, set, ◌∙◌, arith}
 use Rattle.std.proofs.lemmas.Bool.{le-leb, lt-leb}
-use Rattle.std.proofs.lemmas.List.{take_more_set, append_assoc, append-nil}
+use Rattle.std.proofs.lemmas.List.{take_more_set, append_assoc, append-nil, drop-drop, drop-set-lt}
 use Rattle.mp_scaled.specs.Print.{rounded_last, digits_within}
 
 -- the last digit: what is left is within delta
@@ -39,3 +39,14 @@ more_put to text place n m s delta r before room some e more =
 pub all_put : (to text : List ℕ) (end place n s delta : ℕ) → take place to ++ digits_within n s delta ≡ text → place ≡ end → n ≡ 0 → take end to ≡ text
 unfolding digits_within
 all_put to text end place n s delta before e none = rw (none, append-nil, e) at before
+
+-- lists that are equal from one place on are so from a later one on
+pub equal_later : (n m : ℕ) (xs ys : List ℕ) → n ≤ m → drop n xs ≡ drop n ys → drop m xs ≡ drop m ys
+equal_later n m xs ys before e =
+    let same : n + (m - n) ≡ m = omega arith in
+    rw (← same, ← drop-drop (m - n) n xs, ← drop-drop (m - n) n ys, e)
+
+-- a byte that is put leaves what stands behind it
+pub equal_behind : (place c : ℕ) (xs ys : List ℕ) → drop place xs ≡ drop place ys → drop (place + 1) (set xs place c) ≡ drop (place + 1) ys
+equal_behind place c xs ys e =
+    drop-set-lt (place + 1) xs place c (omega arith) ∙ equal_later place (place + 1) xs ys (omega arith) e

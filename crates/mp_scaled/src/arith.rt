@@ -2,7 +2,9 @@
 
 ghost use Rattle.std.specs.Prelude.{◌≡◌, ◌≢◌, ◌↔◌, ◌≤◌, ◌<◌, ◌^◌, pos, ◌*ℤ◌, unsigned_abs, IsErrOf};
 ghost use Rattle.mp_scaled.specs.Round.{rounded_quotient, round, in_range, signed_of, make_scaled_of, make_fraction_of, take_scaled_of, take_fraction_of};
+ghost use Rattle.mp_scaled.specs.declared.units.TheConstants.{SCALED_ONE, FRACTION_ONE, MAGNITUDE_LIMIT};
 
+use crate::{FRACTION_ONE, MAGNITUDE_LIMIT, SCALED_ONE};
 use thiserror::Error;
 
 /// Why a product or a quotient has no value.
@@ -16,12 +18,6 @@ pub enum Arith {
     DivisionByZero,
 }
 
-/// 1 as a fraction.
-const FRACTION_ONE: u128 = 1 << 28;
-
-/// 1 as a scaled number.
-const SCALED_ONE: u128 = 1 << 16;
-
 /// `2^28 p/q`, rounded to the nearest, a half away from zero.
 pub fn make_fraction(p: i64, q: i64) -> Result<i32, Arith>
     requires small_p { unsigned_abs p < 2 ^ 62 }
@@ -29,13 +25,13 @@ pub fn make_fraction(p: i64, q: i64) -> Result<i32, Arith>
     ensures exact { result ≡ make_fraction_of p q }
     ensures zero { IsErrOf result Arith.DivisionByZero ↔ (q ≡ pos 0) }
     ensures overflow { IsErrOf result Arith.Overflow ↔
-        ((q ≢ pos 0) × (2 ^ 31 ≤ unsigned_abs (round (p *ℤ pos 268435456) q))) }
+        ((q ≢ pos 0) × (MAGNITUDE_LIMIT ≤ unsigned_abs (round (p *ℤ pos FRACTION_ONE) q))) }
 {
     if q == 0 {
         return Err(Arith::DivisionByZero);
     }
     let magnitude = rounded(
-        u128::from(p.unsigned_abs()) * FRACTION_ONE,
+        u128::from(p.unsigned_abs()) * u128::from(FRACTION_ONE),
         u128::from(q.unsigned_abs()),
     );
     signed((p < 0) != (q < 0), magnitude)
@@ -48,13 +44,13 @@ pub fn make_scaled(p: i64, q: i64) -> Result<i32, Arith>
     ensures exact { result ≡ make_scaled_of p q }
     ensures zero { IsErrOf result Arith.DivisionByZero ↔ (q ≡ pos 0) }
     ensures overflow { IsErrOf result Arith.Overflow ↔
-        ((q ≢ pos 0) × (2 ^ 31 ≤ unsigned_abs (round (p *ℤ pos 65536) q))) }
+        ((q ≢ pos 0) × (MAGNITUDE_LIMIT ≤ unsigned_abs (round (p *ℤ pos SCALED_ONE) q))) }
 {
     if q == 0 {
         return Err(Arith::DivisionByZero);
     }
     let magnitude = rounded(
-        u128::from(p.unsigned_abs()) * SCALED_ONE,
+        u128::from(p.unsigned_abs()) * u128::from(SCALED_ONE),
         u128::from(q.unsigned_abs()),
     );
     signed((p < 0) != (q < 0), magnitude)
@@ -66,11 +62,11 @@ pub fn take_fraction(q: i64, f: i64) -> Result<i32, Arith>
     requires small_f { unsigned_abs f < 2 ^ 62 }
     ensures exact { result ≡ take_fraction_of q f }
     ensures overflow { IsErrOf result Arith.Overflow ↔
-        (2 ^ 31 ≤ unsigned_abs (round (q *ℤ f) (pos 268435456))) }
+        (MAGNITUDE_LIMIT ≤ unsigned_abs (round (q *ℤ f) (pos FRACTION_ONE))) }
 {
     let magnitude = rounded(
         u128::from(q.unsigned_abs()) * u128::from(f.unsigned_abs()),
-        FRACTION_ONE,
+        u128::from(FRACTION_ONE),
     );
     signed((q < 0) != (f < 0), magnitude)
 }
@@ -81,11 +77,11 @@ pub fn take_scaled(q: i64, f: i64) -> Result<i32, Arith>
     requires small_f { unsigned_abs f < 2 ^ 62 }
     ensures exact { result ≡ take_scaled_of q f }
     ensures overflow { IsErrOf result Arith.Overflow ↔
-        (2 ^ 31 ≤ unsigned_abs (round (q *ℤ f) (pos 65536))) }
+        (MAGNITUDE_LIMIT ≤ unsigned_abs (round (q *ℤ f) (pos SCALED_ONE))) }
 {
     let magnitude = rounded(
         u128::from(q.unsigned_abs()) * u128::from(f.unsigned_abs()),
-        SCALED_ONE,
+        u128::from(SCALED_ONE),
     );
     signed((q < 0) != (f < 0), magnitude)
 }
@@ -102,7 +98,7 @@ fn rounded(a: u128, b: u128) -> u128
 fn signed(negative: bool, magnitude: u128) -> Result<i32, Arith>
     ensures { result ≡ in_range (signed_of negative magnitude) }
 {
-    if magnitude >= 1 << 31 {
+    if magnitude >= u128::from(MAGNITUDE_LIMIT) {
         return Err(Arith::Overflow);
     }
     let value = magnitude as i64;

@@ -7,17 +7,19 @@
 #![tactic(auto)]
 
 mod arith;
-mod bytes;
 mod decimal;
 mod listing;
+mod no_memory;
 mod print;
 mod shared;
 #[cfg(test)]
 mod tests;
+mod units;
 
 pub use arith::{Arith, make_fraction, make_scaled, take_fraction, take_scaled};
-pub use bytes::{Bytes, NoMemory};
-pub use decimal::{TooLarge, read_decimal};
-pub use listing::Listing;
+pub use decimal::{DIGIT_ZERO, FRACTION_DIGITS, MINUS, POINT, TooLarge, read_decimal};
+pub use listing::{Bytes, Listing};
+pub use no_memory::NoMemory;
 pub use print::{print_scaled, printed_reads_back};
 pub use shared::{Shared, SharedSlice};
+pub use units::{FRACTION_ONE, MAGNITUDE_LIMIT, SCALED_ONE};

@@ -13,10 +13,11 @@ use Rattle.mp_forms.specs.Forms.{LinearForm}
 use Rattle.mp_solver.specs.declared.change.Change.{Change}
 use Rattle.mp_solver.specs.declared.equated.Equated.TheVariants.{Accepted, CoefficientTooLarge, Overflow, Limit}
 use Rattle.mp_solver.specs.States.{States}
-use Rattle.mp_solver.specs.Elimination.{pivot_of, solved_for, replaced, solved_states, forms_in, has_large_coefficient, has_large_constant, term_count, within_limits, eliminate, eliminate_by}
-use Rattle.mp_solver.specs.Ready.{with_change, IsReady, IsResidual}
-use Rattle.mp_solver.proofs.EliminationLemmas.{list_any-set, term_count-set, slot_within, slot_empty, pivot_within, new_terms}
-use Rattle.mp_solver.proofs.SubstitutionLemmas.{IsTally}
+use Rattle.mp_solver.specs.Elimination.{pivot_of, solved_for, replaced, solved_states, forms_in, has_large_coefficient, has_large_constant, term_count, answer_by_limits, eliminate, eliminate_by}
+use Rattle.mp_solver.specs.Ready.{IsResidual}
+use Rattle.mp_solver.specs.Storage.Changes.{with_change, IsReady}
+use Rattle.mp_solver.proofs.EliminationLemmas.{list_any-set, term_count-set, slot_within, slot_empty, pivot_within, new_small as small_terms}
+use Rattle.mp_solver.specs.Storage.Tally.{IsTally}
 
 module _ (states : States) (residual : LinearForm) (is : IsResidual states residual) (pivot : Term) (found : pivot_of residual.terms ≡ Some pivot) where
   abbrev new : LinearForm
@@ -33,9 +34,9 @@ module _ (states : States) (residual : LinearForm) (is : IsResidual states resid
 
   new_small : has_large_coefficient new ≡ false
   new_small =
-      list_any_none is_too_large new.terms (λ i d lt. lt-leb (2 ^ 44) (unsigned_abs (get_or new.terms i d).coefficient) ((new_terms states residual is pivot found).coefficients i d lt).1)
+      list_any_none is_too_large new.terms (λ i d lt. lt-leb (2 ^ 44) (unsigned_abs (get_or new.terms i d).coefficient) (small_terms states residual is pivot found i d lt))
 
-  by_limits : eliminate states residual ≡ within_limits states after
+  by_limits : eliminate states residual ≡ answer_by_limits states after
   by_limits = ap (eliminate_by states residual) found
 
   -- some form has too large a coefficient
@@ -44,7 +45,7 @@ module _ (states : States) (residual : LinearForm) (is : IsResidual states resid
       let some : list_any has_large_coefficient (forms_in after) ≡ true = any_after has_large_coefficient ∙ rw (new_small, large) refl in
       sym (by_limits ∙ rw some refl)
 
-  module _ (i : ℕ) (all : length states ≤ i) (changes : List Change) (overflows : Bool) (kept made : ℕ) (tally : IsTally states pivot.serial new i changes overflows kept made) where
+  module _ (i : ℕ) (all : length states ≤ i) (changes : List Change) (overflows : Bool) (unchanged added : ℕ) (tally : IsTally states pivot.serial new i changes overflows unchanged added) where
     whole : take i mapped ≡ mapped
     whole = let same = length-map states (option_map (replaced pivot.serial new)) in take_all i mapped (omega (arith, all, same))
 
@@ -57,29 +58,29 @@ module _ (states : States) (residual : LinearForm) (is : IsResidual states resid
     pub answer-overflow : overflows ≡ true → (Overflow, states) ≡ eliminate states residual
     answer-overflow over = sym (by_limits ∙ rw (coefficients, constants, over) refl)
 
-    -- the terms that are kept and those that are made
-    count : overflows ≡ false → (kept + made ≤ 4000000 → kept + made ≡ term_count after) × (4000000 < kept + made → 4000000 < term_count after)
+    -- the terms that are unchanged and those that are added
+    count : overflows ≡ false → (unchanged + added ≤ 4000000 → unchanged + added ≡ term_count after) × (4000000 < unchanged + added → 4000000 < term_count after)
     count fits =
         let before = tally.counted fits in
-        let made_is = before.made_is in
+        let added_is = before.added_is in
         let total_is = before.total_is in
         let total : term_count (take i mapped) ≡ term_count mapped = ap term_count whole in
         let rest : term_count (drop i states) ≡ 0 = ap term_count (drop_all i states all) in
         let sum = term_count-set mapped (pivot.serial - 1) new (slot_within states residual is pivot found) (slot_empty states residual is pivot found) in
-        (λ within. omega (arith, made_is, total_is, total, rest, sum, within), λ many. omega (arith, made_is, total_is, total, rest, sum, many))
+        (λ within. omega (arith, added_is, total_is, total, rest, sum, within), λ many. omega (arith, added_is, total_is, total, rest, sum, many))
 
-    pub answer-limit : overflows ≡ false → 4000000 < kept + made → (Limit, states) ≡ eliminate states residual
+    pub answer-limit : overflows ≡ false → 4000000 < unchanged + added → (Limit, states) ≡ eliminate states residual
     answer-limit fits many = sym (by_limits ∙ rw (coefficients, constants, fits, lt-ltb 4000000 (term_count after) ((count fits).1 many)) refl)
 
     -- all forms are within the limits
-    pub IsReady-accepted : (form : LinearForm) → overflows ≡ false → form ≡ new → kept + made ≤ 4000000 →
-        IsReady states residual Accepted (changes ++ record { index = pivot.serial - 1; form = form } ∷ []) (kept + made)
+    pub IsReady-accepted : (form : LinearForm) → overflows ≡ false → form ≡ new → unchanged + added ≤ 4000000 →
+        IsReady states residual Accepted (changes ++ record { index = pivot.serial - 1; form = form } ∷ []) (unchanged + added)
     IsReady-accepted form fits same few =
         let last : Change = record { index = pivot.serial - 1; form = form } in
         let counted = (count fits).0 few in
         let less : term_count after ≤ 4000000 = omega (arith, counted, few) in
         let replaced_all : fold with_change states changes ≡ mapped =
-        tally.applied fits ∙ ap (λ ss. take i mapped ++ ss) (drop_all i states all) ∙ append-nil (take i mapped) ∙ whole in
+        tally.applied fits (omega (arith, few)) ∙ ap (λ ss. take i mapped ++ ss) (drop_all i states all) ∙ append-nil (take i mapped) ∙ whole in
         let folded : fold with_change states (changes ++ last ∷ []) ≡ after =
         fold-append with_change states changes (last ∷ []) ∙ ap (λ ss. set ss (pivot.serial - 1) (Some form)) replaced_all ∙ ap (λ f. set mapped (pivot.serial - 1) (Some f)) same in
         let at : last.index < length states = let within = pivot_within states residual is pivot found in omega (arith, within.0, within.1) in

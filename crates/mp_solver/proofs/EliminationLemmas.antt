@@ -7,17 +7,17 @@ use Rattle.std.proofs.lemmas.List.{length-map, get_or-set_other}
 use Rattle.std.proofs.lemmas.List.Sums.{sum_by-cons}
 use Rattle.std.proofs.lemmas.List.Elements.{All-nil, All-cons, All-head, All-tail, All-weaker, All-filter, All-map}
 use Rattle.mp_pool.specs.declared.Term.{Term}
-use Rattle.mp_forms.specs.Terms.{AreTerms, AreOrdered, is_too_large, IsCoefficient}
+use Rattle.mp_forms.specs.Terms.{AreTerms, AreOrdered, StayInOrder, is_too_large, IsCoefficient}
 use Rattle.mp_forms.specs.Ratios.{times_fraction}
 use Rattle.mp_forms.specs.Forms.{LinearForm}
-use Rattle.mp_forms.proofs.TermLemmas.{AreOrdered-sum_terms}
 use Rattle.mp_solver.specs.States.{States, form_of, IsSerial}
 use Rattle.mp_solver.specs.Elimination.{pivot_of, without, term_of, over_negative, solved_for, replaced, replaced_term, solved_states, forms_in, has_large_coefficient, has_large_constant, term_count}
-use Rattle.mp_solver.specs.Ready.{IsResidual, with_change}
+use Rattle.mp_solver.specs.Ready.{IsResidual}
+use Rattle.mp_solver.specs.Storage.Changes.{with_change}
 use Rattle.mp_solver.specs.declared.change.Change.{Change}
 use Rattle.mp_solver.specs.Solved.{IsSolvedForm, IsSolved}
 use Rattle.mp_solver.proofs.ReductionLemmas.{AreTerms-filter}
-use Rattle.mp_solver.proofs.TermLists.{Each, Each-sum_terms, Each-changed_terms, Each-without, holds-pivot_of, greatest-pivot_of, AreTerms-over_negative}
+use Rattle.mp_solver.proofs.TermLists.{Each, Each-sum_terms, Each-changed_terms, Each-without, holds-pivot_of, greatest-pivot_of, AreTerms-over_negative, small-over_negative}
 
 -- new forms leave the number of states as it is
 pub length-fold-with_change : (states : States) (changes : List Change) → length (fold with_change states changes) ≡ length states
@@ -136,39 +136,45 @@ module _ (states : States) (residual : LinearForm) (is : IsResidual states resid
     ordered : AreOrdered p.terms
     frees : Each IsFree p.terms
 
-  pub new_terms : AreTerms new.terms
-  new_terms =
-      AreTerms-over_negative pivot.coefficient (without pivot.serial residual.terms) pivot_coefficient.0
-      (All-filter _ (λ t. unsigned_abs t.coefficient ≤ unsigned_abs pivot.coefficient) residual.terms (greatest-pivot_of residual.terms pivot found))
+  others_below : All (λ t. unsigned_abs t.coefficient ≤ unsigned_abs pivot.coefficient) (without pivot.serial residual.terms)
+  others_below = All-filter _ (λ t. unsigned_abs t.coefficient ≤ unsigned_abs pivot.coefficient) residual.terms (greatest-pivot_of residual.terms pivot found)
+
+  pub new_small : All (λ t. unsigned_abs t.coefficient < 2 ^ 44) new.terms
+  new_small = small-over_negative pivot.coefficient (without pivot.serial residual.terms) pivot_coefficient.0 others_below
+
+  new_terms : StayInOrder → AreTerms new.terms
+  new_terms order =
+      AreTerms-over_negative order pivot.coefficient (without pivot.serial residual.terms) pivot_coefficient.0
+      others_below
       (AreTerms-filter _ residual.terms is.terms)
 
   ordered_of : (ts : List Term) → AreTerms ts → AreOrdered ts
   ordered_of ts are = record { serials = are.serials; nonzero = λ i d lt. (are.coefficients i d lt).0 }
 
-  good_new : IsGood new
-  good_new = record {
-    ordered = ordered_of new.terms new_terms;
+  good_new : StayInOrder → IsGood new
+  good_new order = record {
+    ordered = ordered_of new.terms (new_terms order);
     frees = Each-changed_terms IsFree (over_negative pivot.coefficient) (without pivot.serial residual.terms) (free_without residual.terms is.over is.reduced);
   }
 
-  good_term : (p : LinearForm) → IsSolvedForm states p → (t : Option Term) → term_of pivot.serial p.terms ≡ t → IsGood (replaced_term pivot.serial new p t)
-  good_term p solved None none = record {
+  good_term : (order : StayInOrder) (p : LinearForm) → IsSolvedForm states p → (t : Option Term) → term_of pivot.serial p.terms ≡ t → IsGood (replaced_term pivot.serial new p t)
+  good_term order p solved None none = record {
     ordered = ordered_of p.terms solved.terms;
     frees = free p.terms solved.over solved.reduced (absent pivot.serial p.terms none);
   }
-  good_term p solved (Some t) some = record {
-    ordered = AreOrdered-sum_terms (times_fraction t.coefficient) (without pivot.serial p.terms) new.terms (AreTerms-filter _ p.terms solved.terms) new_terms;
-    frees = Each-sum_terms IsFree (times_fraction t.coefficient) (without pivot.serial p.terms) new.terms (free_without p.terms solved.over solved.reduced) good_new.frees;
+  good_term order p solved (Some t) some = record {
+    ordered = order.sums (times_fraction t.coefficient) (without pivot.serial p.terms) new.terms (AreTerms-filter _ p.terms solved.terms) (new_terms order);
+    frees = Each-sum_terms IsFree (times_fraction t.coefficient) (without pivot.serial p.terms) new.terms (free_without p.terms solved.over solved.reduced) (good_new order).frees;
   }
 
-  good_replaced : (p : LinearForm) → IsSolvedForm states p → IsGood (replaced pivot.serial new p)
-  good_replaced p solved = good_term p solved (term_of pivot.serial p.terms) refl
+  good_replaced : (order : StayInOrder) (p : LinearForm) → IsSolvedForm states p → IsGood (replaced pivot.serial new p)
+  good_replaced order p solved = good_term order p solved (term_of pivot.serial p.terms) refl
 
-  good_after : All (IsSolvedForm states) (forms_in states) → All IsGood (forms_in after)
-  good_after solved =
-      All-set-forms_in IsGood mapped (pivot.serial - 1) new good_new
+  good_after : StayInOrder → All (IsSolvedForm states) (forms_in states) → All IsGood (forms_in after)
+  good_after order solved =
+      All-set-forms_in IsGood mapped (pivot.serial - 1) new (good_new order)
       (rw (forms_in-map (replaced pivot.serial new) states)
-      (All-map IsGood (replaced pivot.serial new) (forms_in states) (All-weaker (IsSolvedForm states) (λ p. IsGood (replaced pivot.serial new p)) good_replaced (forms_in states) solved)))
+      (All-map IsGood (replaced pivot.serial new) (forms_in states) (All-weaker (IsSolvedForm states) (λ p. IsGood (replaced pivot.serial new p)) (good_replaced order) (forms_in states) solved)))
 
   pub length_after : length after ≡ length states
   length_after = length-set mapped (pivot.serial - 1) (Some new) ∙ length-map states (option_map (replaced pivot.serial new))
@@ -199,9 +205,9 @@ module _ (states : States) (residual : LinearForm) (is : IsResidual states resid
       }
 
   -- the states after an equation are solved, where they are within the limits
-  pub IsSolved-after : IsSolved states → list_any has_large_coefficient (forms_in after) ≡ false → list_any has_large_constant (forms_in after) ≡ false → term_count after ≤ 4000000 → IsSolved after
-  IsSolved-after solved coefficients constants few =
-      let good = good_after solved.forms in
+  pub IsSolved-after : StayInOrder → IsSolved states → list_any has_large_coefficient (forms_in after) ≡ false → list_any has_large_constant (forms_in after) ≡ false → term_count after ≤ 4000000 → IsSolved after
+  IsSolved-after order solved coefficients constants few =
+      let good = good_after order solved.forms in
       let small = all_fail has_large_coefficient (forms_in after) coefficients in
       let small' = all_fail has_large_constant (forms_in after) constants in
       record {

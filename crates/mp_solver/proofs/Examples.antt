@@ -1,5 +1,6 @@
 -- Worked examples: the definitions compute.
-use Rattle.std.proofs.Common.{◌≡◌, ℕ, ℤ, pos, neg_ℤ, [], ◌∷◌, Some, None, Ok, refl}
+use Rattle.std.proofs.Common.{◌≡◌, ℕ, ℤ, List, pos, neg_ℤ, [], ◌∷◌, Some, None, Ok, refl}
+use Rattle.std.specs.Prelude.{codes}
 use Rattle.mp_pool.specs.declared.Term.{Term}
 use Rattle.mp_forms.specs.Terms.{with_term, sum_terms}
 use Rattle.mp_forms.specs.Forms.{LinearForm}
@@ -32,20 +33,24 @@ difference_is_one = Equation (record { constant = neg_ℤ (pos 65536); terms = t
 abbrev twice_and_once_is_three : Event
 twice_and_once_is_three = Equation (record { constant = neg_ℤ (pos 196608); terms = term 2 one ∷ term 1 (pos 536870912) ∷ [] })
 
+-- after x and y were made
+abbrev made_two : List Event → List Event
+made_two events = Fresh (codes "x") ∷ Fresh (codes "y") ∷ events
+
 -- x+y=3: y is the pivot, by the rule at a tie
-pub first_pivot : replay (Fresh ∷ Fresh ∷ sum_is_three ∷ [])
+pub first_pivot : (replay (made_two (sum_is_three ∷ []))).states
     ≡ None ∷ Some (record { constant = pos 196608; terms = term 1 minus_one ∷ [] }) ∷ []
 unfolding sum_terms with_term
 first_pivot = refl
 
 -- x+y=3; x-y=1: x is 2, and y is 1
-pub two_equations : replay (Fresh ∷ Fresh ∷ sum_is_three ∷ difference_is_one ∷ [])
+pub two_equations : (replay (made_two (sum_is_three ∷ difference_is_one ∷ []))).states
     ≡ Some (known (pos 131072)) ∷ Some (known (pos 65536)) ∷ []
 unfolding sum_terms with_term
 two_equations = refl
 
 -- 2x+y=3: x is -0.5y+1.5
-pub greatest_is_pivot : replay (Fresh ∷ Fresh ∷ twice_and_once_is_three ∷ [])
+pub greatest_is_pivot : (replay (made_two (twice_and_once_is_three ∷ []))).states
     ≡ Some (record { constant = pos 98304; terms = term 2 (neg_ℤ (pos 134217728)) ∷ [] }) ∷ None ∷ []
 unfolding sum_terms with_term
 greatest_is_pivot = refl

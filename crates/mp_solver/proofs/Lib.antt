@@ -9,8 +9,9 @@ pub mod AnswerLemmas
 pub mod StepLemmas
 pub mod Examples
 pub mod JudgedLemmas
-pub mod SettledLemmas
-pub mod PlaceLemmas
+pub mod ReducedLemmas
+pub mod RowLemmas
+pub mod AppliedLemmas
 pub mod VisitLemmas
 pub mod LimitLemmas
 pub mod ReplayLemmas

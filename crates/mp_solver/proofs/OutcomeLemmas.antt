@@ -3,14 +3,15 @@ use Rattle.std.proofs.Common.{◌≡◌, ◌≢◌, ◌⊎◌, ℕ, ◌+◌, ◌
 use Rattle.std.specs.List.{list_any, fold}
 use Rattle.std.proofs.lemmas.Bool.{ltb-false}
 use Rattle.mp_pool.specs.declared.Term.{Term}
+use Rattle.mp_forms.specs.Terms.{StayInOrder}
 use Rattle.mp_forms.specs.Forms.{LinearForm}
 use Rattle.mp_solver.specs.declared.change.Change.{Change}
 use Rattle.mp_solver.specs.declared.equated.Equated.{Equated}
 use Rattle.mp_solver.specs.declared.equated.Equated.TheVariants.{Accepted, Redundant, Inconsistent, CoefficientTooLarge, Overflow, Limit}
 use Rattle.mp_solver.specs.States.{States}
 use Rattle.mp_solver.specs.Elimination.{pivot_of, solved_for, solved_states, forms_in, has_large_coefficient, has_large_constant, term_count, eliminate, eliminate_by}
-use Rattle.mp_solver.specs.Ready.{with_change, IsReady}
-use Rattle.mp_solver.specs.Solved.{IsKept}
+use Rattle.mp_solver.specs.Storage.Changes.{with_change, IsReady}
+use Rattle.mp_solver.specs.Storage.Counts.{IsSystem}
 use Rattle.mp_solver.proofs.EliminationLemmas.{IsSolved-after, length_after, length-forms_in_after}
 
 module _ (states : States) (residual : LinearForm) where
@@ -60,7 +61,7 @@ eliminate-refused states residual answer new exact refused =
     let P : Equated × States → Type 0 = λ e. Outcome states residual e in
     elim (subst P (sym exact) (outcome states residual)) [ inl left ↦ left.1 | inr taken ↦ absurd (refused taken.0) ]
 
-module _ (made_for states : States) (same : made_for ≡ states) (residual : LinearForm) (answer : Equated) (changes : List Change) (terms : ℕ) (ready : IsReady made_for residual answer changes terms) (new : States) (is : new ≡ fold with_change states changes) where
+module _ (before states : States) (same : before ≡ states) (residual : LinearForm) (answer : Equated) (changes : List Change) (terms : ℕ) (ready : IsReady before residual answer changes terms) (new : States) (is : new ≡ fold with_change states changes) where
   here : IsReady states residual answer changes terms
   here = subst (λ s. IsReady s residual answer changes terms) same ready
 
@@ -75,8 +76,8 @@ module _ (made_for states : States) (same : made_for ≡ states) (residual : Lin
   equate-refused refused = elim outcome_here [ inl left ↦ left.1 | inr taken ↦ absurd (refused taken.0) ]
 
   -- an accepted one leaves a solved system
-  pub equate-accepted : {names : List (Option (List ℕ))} (dependent old_terms : ℕ) → answer ≡ Accepted → IsKept states names dependent old_terms → IsKept new names (dependent + 1) terms
-  equate-accepted {names} dependent old_terms accepted kept =
+  pub equate-accepted : (order : StayInOrder) {names : List (Option (List ℕ))} (dependent old_terms : ℕ) → answer ≡ Accepted → IsSystem states names dependent old_terms → IsSystem new names (dependent + 1) terms
+  equate-accepted order {names} dependent old_terms accepted whole =
       elim outcome_here [
         | inl left ↦ absurd (left.0 accepted)
         | inr both ↦
@@ -85,13 +86,13 @@ module _ (made_for states : States) (same : made_for ≡ states) (residual : Lin
             let more = length-forms_in_after states residual here.is_residual taken.pivot taken.found in
             let same_length : length new ≡ length states = ap length taken.is ∙ longer in
             record {
-              names_length = kept.names_length ∙ sym same_length;
-              states_length = omega (arith, same_length, kept.states_length);
-              dependent_count = ap (λ n. n + 1) kept.dependent_count ∙ sym (ap (λ s. length (forms_in s)) taken.is ∙ more);
+              names_length = whole.names_length ∙ sym same_length;
+              states_length = omega (arith, same_length, whole.states_length);
+              dependent_count = ap (λ n. n + 1) whole.dependent_count ∙ sym (ap (λ s. length (forms_in s)) taken.is ∙ more);
               terms_count = here.terms_count accepted ∙ ap term_count (sym is);
               solved =
                   rw (taken.is)
-                  (IsSolved-after states residual here.is_residual taken.pivot taken.found kept.solved
+                  (IsSolved-after states residual here.is_residual taken.pivot taken.found order whole.solved
                   (rw (sym taken.is) taken.coefficients) (rw (sym taken.is) taken.constants) (rw (sym taken.is) taken.few));
             }
       ]

@@ -1,5 +1,5 @@
 -- How a form is brought up to date, term by term.
-use Rattle.std.proofs.Common.{◌≡◌, ℕ, ◌+◌, ◌<◌, ◌^◌, Bool, true, false, cond, List, [], ◌∷◌, Some, None, Result, Ok, Err, length, get_or, take, drop, refl, sym, ap, ◌∙◌, arith}
+use Rattle.std.proofs.Common.{◌≡◌, ℕ, ◌+◌, ◌<◌, ◌≤◌, ◌^◌, Bool, true, false, cond, List, [], ◌∷◌, Some, None, Result, Ok, Err, length, get_or, take, drop, refl, sym, ap, ◌∙◌, arith}
 use Rattle.std.specs.List.{fold, filter}
 use Rattle.std.proofs.lemmas.List.{take-append-drop}
 use Rattle.std.proofs.lemmas.List.Sums.{fold-append, fold_more}
@@ -8,9 +8,12 @@ use Rattle.mp_pool.specs.declared.Term.{Term}
 use Rattle.mp_forms.specs.declared.fault.FormFault.{FormFault}
 use Rattle.mp_forms.specs.Terms.{SerialsDecrease, IsCoefficient, AreTerms}
 use Rattle.mp_forms.specs.Forms.{LinearForm, sum_of}
-use Rattle.mp_forms.proofs.TermLemmas.{SerialsDecrease-more}
 use Rattle.mp_solver.specs.States.{States, form_of}
 use Rattle.mp_solver.specs.Reduction.{with_form, with_term_of}
+
+SerialsDecrease-more : (m n : ℕ) (ts : List Term) → m ≤ n → SerialsDecrease m ts → SerialsDecrease n ts
+SerialsDecrease-more m n [] le below = tt
+SerialsDecrease-more m n (t ∷ ts) le below = (omega (arith, below.0), below.1)
 
 SerialsDecrease-filter : (keep : Term → Bool) (n : ℕ) (ts : List Term) → SerialsDecrease n ts → SerialsDecrease n (filter keep ts)
 SerialsDecrease-filter keep n [] below = tt

@@ -7,7 +7,8 @@ use Rattle.std.proofs.Math.ListN.{get_or-append}
 use Rattle.mp_forms.specs.Forms.{LinearForm}
 use Rattle.mp_solver.specs.States.{States, form_of, with_fresh, IsSerial}
 use Rattle.mp_solver.specs.Elimination.{forms_in}
-use Rattle.mp_solver.specs.Solved.{IsSolvedForm, IsKept}
+use Rattle.mp_solver.specs.Solved.{IsSolvedForm}
+use Rattle.mp_solver.specs.Storage.Counts.{IsSystem}
 
 pub length-forms_in : (states : States) → length (forms_in states) ≤ length states
 length-forms_in [] = omega arith
@@ -30,17 +31,17 @@ IsSolvedForm-with_fresh states p solved =
       reduced = λ i d lt. form_of-with_fresh states (get_or p.terms i d).serial (solved.over i d lt) ∙ solved.reduced i d lt;
     }
 
-pub IsKept-with_fresh : (states : States) (names : List (Option (List ℕ))) (name : Option (List ℕ)) (dependent terms : ℕ) → length states < 1000000 → IsKept states names dependent terms → IsKept (with_fresh states) (names ++ name ∷ []) dependent terms
-IsKept-with_fresh states names name dependent terms room kept =
+pub IsSystem-with_fresh : (states : States) (names : List (Option (List ℕ))) (name : Option (List ℕ)) (dependent terms : ℕ) → length states < 1000000 → IsSystem states names dependent terms → IsSystem (with_fresh states) (names ++ name ∷ []) dependent terms
+IsSystem-with_fresh states names name dependent terms room whole =
     let longer = length-append states (None ∷ []) in
     let more_names = length-append names (name ∷ []) in
     record {
-      names_length = omega (arith, longer, more_names, kept.names_length);
+      names_length = omega (arith, longer, more_names, whole.names_length);
       states_length = omega (arith, longer, room);
-      dependent_count = kept.dependent_count ∙ ap length (sym (forms_in-with_fresh states));
-      terms_count = kept.terms_count ∙ ap (sum_by (λ p. length p.terms)) (sym (forms_in-with_fresh states));
+      dependent_count = whole.dependent_count ∙ ap length (sym (forms_in-with_fresh states));
+      terms_count = whole.terms_count ∙ ap (sum_by (λ p. length p.terms)) (sym (forms_in-with_fresh states));
       solved = record {
-        forms = rw (forms_in-with_fresh states) (All-weaker (IsSolvedForm states) (IsSolvedForm (with_fresh states)) (IsSolvedForm-with_fresh states) (forms_in states) kept.solved.forms);
-        few_terms = rw (forms_in-with_fresh states) kept.solved.few_terms;
+        forms = rw (forms_in-with_fresh states) (All-weaker (IsSolvedForm states) (IsSolvedForm (with_fresh states)) (IsSolvedForm-with_fresh states) (forms_in states) whole.solved.forms);
+        few_terms = rw (forms_in-with_fresh states) whole.solved.few_terms;
       };
     }

@@ -1,8 +1,9 @@
--- One step of the loop over the states, from what is made of the form there; and what reduced forms are made of.
-use Rattle.std.proofs.Common.{◌≡◌, ℕ, ◌+◌, ◌-◌, ◌<◌, ◌^◌, min, unsigned_abs, Bool, true, false, ◌||◌, cond, ltb, ℤ, ◌+ℤ◌, List, [], ◌∷◌, ◌++◌, Option, Some, None, Result, Ok, Err, zero, suc, map, length, get_or, take, drop, refl, sym, ap, ◌∙◌, subst}
+-- One step of the loop over the states, from what is added of the form there; and what reduced forms are added of.
+use Rattle.std.proofs.Common.{◌≡◌, ℕ, ◌+◌, ◌-◌, ◌<◌, ◌≤◌, ◌^◌, min, unsigned_abs, Bool, true, false, ◌||◌, cond, ltb, leb, inl, inr, ℤ, ◌+ℤ◌, List, [], ◌∷◌, ◌++◌, Option, Some, None, Result, Ok, Err, zero, suc, map, length, get_or, take, drop, refl, sym, ap, ◌∙◌, subst}
 use Rattle.std.specs.List.{All, list_any, filter, fold}
 use Rattle.std.specs.Option.{option_map, is_none}
-use Rattle.std.proofs.lemmas.Bool.{lt-leb}
+use Rattle.std.specs.Result.{IfOk}
+use Rattle.std.proofs.lemmas.Bool.{cases_lt, lt-leb, le-leb}
 use Rattle.std.proofs.lemmas.List.{take-append-drop}
 use Rattle.std.proofs.lemmas.List.Folds.{list_any-append, list_any_none}
 use Rattle.std.proofs.lemmas.List.Elements.{filter_map-append, All-nil, All-cons, All-head, All-tail, All-filter}
@@ -14,16 +15,18 @@ use Rattle.mp_forms.specs.Terms.{sum_terms, is_too_large, AreTerms}
 use Rattle.mp_forms.specs.Forms.{LinearForm, sum_of}
 use Rattle.mp_solver.specs.declared.solution.Solution.{Solution}
 use Rattle.mp_solver.specs.declared.solution.Replacement.{Replacement}
-use Rattle.mp_solver.specs.declared.solution.Replacement.TheVariants.{Kept, Changed, Overflows, TooLarge}
+use Rattle.mp_solver.specs.declared.solution.Replacement.TheVariants.{Absent, Changed, Overflows, TooLarge}
 use Rattle.mp_solver.specs.declared.change.Change.{Change}
 use Rattle.mp_solver.specs.States.{States, form_of, IsSerial, IsOver}
 use Rattle.mp_solver.specs.Reduction.{independent_part, with_form, with_term_of, reduce_of}
 use Rattle.mp_solver.specs.Elimination.{replaced, forms_in, has_large_coefficient, has_large_constant}
-use Rattle.mp_solver.specs.Solution.{IsSolution, replaced_sum, replacement_of}
-use Rattle.mp_solver.specs.Solved.{IsSolvedForm, IsSolved}
+use Rattle.mp_solver.specs.Storage.Solution.{IsSolution, replaced_sum, replacement_of}
+use Rattle.mp_solver.specs.Solved.{IsReduced, IsSolvedForm, IsSolved}
 use Rattle.mp_solver.specs.Ready.{IsResidual}
+use Rattle.mp_solver.proofs.ReducedLemmas.{reduce_of_reduced}
 use Rattle.mp_solver.proofs.TermLists.{Each, Each-sum_terms}
-use Rattle.mp_solver.proofs.SubstitutionLemmas.{Says, says, IsTally, IsTally-kept, IsTally-changed, IsTally-overflows, any_next}
+use Rattle.mp_solver.specs.Storage.Tally.{IsTally}
+use Rattle.mp_solver.proofs.SubstitutionLemmas.{Says, says, IsTally-unchanged, IsTally-changed, IsTally-beyond, IsTally-overflows, any_next}
 
 -- what holds of all forms holds of the form of one unknown
 pub holds-at : (P : LinearForm → Type 0) (states : States) (i : ℕ) (p : LinearForm) → All P (forms_in states) → get_or states i None ≡ Some p → P p
@@ -48,7 +51,7 @@ or_true_right true b e = refl
 or_true_right false b e = e
 
 module _ (states : States) (solved : IsSolved states) (serial : ℕ) (new : LinearForm) (solution : Solution) (is : IsSolution solution new)
-    (i : ℕ) (changes : List Change) (overflows : Bool) (kept made : ℕ) (so_far : IsTally states serial new i changes overflows kept made) (at : i < length states)
+    (i : ℕ) (changes : List Change) (overflows : Bool) (unchanged added : ℕ) (so_far : IsTally states serial new i changes overflows unchanged added) (at : i < length states)
     (form : LinearForm) (some : get_or states i None ≡ Some form) (answer : Replacement) (answer_is : answer ≡ replacement_of (replaced_sum serial solution.form form)) where
   held_is : solution.form ≡ record { constant = solution.form.constant; terms = new.terms }
   held_is = ap (λ ts. record { constant = solution.form.constant; terms = ts }) is.terms
@@ -62,26 +65,38 @@ module _ (states : States) (solved : IsSolved states) (serial : ℕ) (new : Line
   fits_new : overflows ≡ false → solution.overflows ≡ false
   fits_new fits = is.overflows ∙ or_left (has_large_constant new) _ (sym so_far.overflow ∙ fits)
 
-  pub step-kept : answer ≡ Kept → IsTally states serial new (i + 1) changes overflows kept made
-  step-kept same =
+  pub step-unchanged : answer ≡ Absent → IsTally states serial new (i + 1) changes overflows unchanged added
+  step-unchanged same =
       let small = small_form states form (holds-at (IsSolvedForm states) states i form solved.forms some) in
-      IsTally-kept states serial new i changes overflows kept made so_far at form some (said_of Kept same) small.0 small.1
+      IsTally-unchanged states serial new i changes overflows unchanged added so_far at form some (said_of Absent same) small.0 small.1
 
-  pub step-changed : (f : LinearForm) (less more : ℕ) → answer ≡ Changed f → less ≡ kept - length form.terms → more ≡ min (made + length f.terms) 4000001 →
-      IsTally states serial new (i + 1) (changes ++ record { index = i; form = f } ∷ []) overflows less more
-  step-changed f less more same fewer count =
-      let now = said_of (Changed f) same in
-      IsTally-changed states serial new i changes overflows kept made so_far at form some f less more now.0 (λ fits. now.1 (fits_new fits)) fewer count
+  module _ (f : LinearForm) (less more : ℕ) (same : answer ≡ Changed f) (fewer : less ≡ unchanged - length form.terms) (count : more ≡ min (added + length f.terms) 4000001) where
+    step-changed : more ≤ 4000000 → IsTally states serial new (i + 1) (changes ++ record { index = i; form = f } ∷ []) overflows less more
+    step-changed held =
+        let now = said_of (Changed f) same in
+        IsTally-changed states serial new i changes overflows unchanged added so_far at form some f less more now.0 (λ fits. now.1 (fits_new fits)) fewer count held
 
-  pub step-overflows : answer ≡ Overflows → IsTally states serial new (i + 1) changes true kept made
+    step-beyond : 4000000 < more → IsTally states serial new (i + 1) changes overflows less more
+    step-beyond beyond =
+        let now = said_of (Changed f) same in
+        IsTally-beyond states serial new i changes overflows unchanged added so_far at form some f less more now.0 (λ fits. now.1 (fits_new fits)) fewer count beyond
+
+    pub step-counted : (next : List Change) → next ≡ cond (leb more 4000000) (changes ++ record { index = i; form = f } ∷ []) changes → IsTally states serial new (i + 1) next overflows less more
+    step-counted next is =
+        elim (cases_lt 4000000 more) [
+          | inl beyond ↦ rw (is, lt-leb more 4000000 beyond) (step-beyond beyond)
+          | inr held ↦ rw (is, le-leb more 4000000 held) (step-changed held)
+        ]
+
+  pub step-overflows : answer ≡ Overflows → IsTally states serial new (i + 1) changes true unchanged added
   step-overflows same =
       let now = said_of Overflows same in
-      IsTally-overflows states serial new i changes overflows kept made so_far at form some now.0 (λ fits. now.1 (fits_new fits))
+      IsTally-overflows states serial new i changes overflows unchanged added so_far at form some now.0 (λ fits. now.1 (fits_new fits))
 
   pub step-too_large : answer ≡ TooLarge → list_any has_large_coefficient (forms_in (map (option_map (replaced serial new)) states)) ≡ true
   step-too_large same =
       let mapped : States = map (option_map (replaced serial new)) states in
-      let here = any_next states serial new i changes overflows kept made so_far at form some has_large_coefficient in
+      let here = any_next states serial new i changes overflows unchanged added so_far at form some has_large_coefficient in
       let large : list_any has_large_coefficient (forms_in (take (i + 1) mapped)) ≡ true = here ∙ or_true_right _ _ (said_of TooLarge same) in
       ap (λ ss. list_any has_large_coefficient (forms_in ss)) (sym (take-append-drop (i + 1) mapped))
       ∙ ap (list_any has_large_coefficient) (filter_map-append (λ form. form) (take (i + 1) mapped) (drop (i + 1) mapped))
@@ -131,20 +146,34 @@ module _ (states : States) (solved : IsSolved states) where
   independent_terms [] = All-nil (λ t. form_of states t.serial ≡ None)
   independent_terms (t ∷ ts) = independent_cond t _ (is_none (form_of states t.serial)) refl (independent_terms ts)
 
+  frees : (p : LinearForm) → IsOver states p → OkFree (reduce_of states p)
+  frees p over =
+      free_fold (Ok (independent_part states p)) p.terms
+      (λ i d lt. record { within = All-filter (λ t. is_none (form_of states t.serial)) (λ t. IsSerial states t.serial) p.terms over i d lt; independent = independent_terms p.terms i d lt })
+
   -- no dependent unknown is left in a form that was brought up to date
+  pub reduced-reduce_of : (p : LinearForm) (answer : Result LinearForm FormFault) → IsOver states p → answer ≡ reduce_of states p → IfOk answer (IsReduced states)
+  reduced-reduce_of p (Ok q) over is = λ i d lt. (subst OkFree (sym is) (frees p over) i d lt).independent
+  reduced-reduce_of p (Err fault) over is = tt
+
+  pub over-reduce_of : (p : LinearForm) (answer : Result LinearForm FormFault) → IsOver states p → answer ≡ reduce_of states p → IfOk answer (IsOver states)
+  over-reduce_of p (Ok q) over is = λ i d lt. (subst OkFree (sym is) (frees p over) i d lt).within
+  over-reduce_of p (Err fault) over is = tt
+
+  -- and it is brought up to date no further
+  pub again-reduce_of : (p : LinearForm) (answer : Result LinearForm FormFault) → IsOver states p → answer ≡ reduce_of states p → IfOk answer (λ q. reduce_of states q ≡ Ok q)
+  again-reduce_of p (Ok q) over is = reduce_of_reduced states q (reduced-reduce_of p (Ok q) over is)
+  again-reduce_of p (Err fault) over is = tt
+
   pub IsResidual-reduce_of : (p residual : LinearForm) → IsOver states p → Ok residual ≡ reduce_of states p → AreTerms residual.terms → IsResidual states residual
-  IsResidual-reduce_of p residual over is are =
-      let start : Each IsFree (independent_part states p).terms =
-      λ i d lt. record { within = All-filter (λ t. is_none (form_of states t.serial)) (λ t. IsSerial states t.serial) p.terms over i d lt; independent = independent_terms p.terms i d lt } in
-      let frees : Each IsFree residual.terms = subst OkFree (sym is) (free_fold (Ok (independent_part states p)) p.terms start) in
-      record {
-        terms = are;
-        over = λ i d lt. (frees i d lt).within;
-        reduced = λ i d lt. (frees i d lt).independent;
-      }
+  IsResidual-reduce_of p residual over is are = record {
+    terms = are;
+    over = over-reduce_of p (Ok residual) over is;
+    reduced = reduced-reduce_of p (Ok residual) over is;
+  }
 
 -- the form that is held is the new one, where nothing overflows
-pub solution_is : (states : States) (serial : ℕ) (new : LinearForm) (solution : Solution) → IsSolution solution new → (i : ℕ) (changes : List Change) (overflows : Bool) (kept made : ℕ) → IsTally states serial new i changes overflows kept made → overflows ≡ false → solution.form ≡ new
-solution_is states serial new solution is i changes overflows kept made tally fits =
+pub solution_is : (states : States) (serial : ℕ) (new : LinearForm) (solution : Solution) → IsSolution solution new → (i : ℕ) (changes : List Change) (overflows : Bool) (unchanged added : ℕ) → IsTally states serial new i changes overflows unchanged added → overflows ≡ false → solution.form ≡ new
+solution_is states serial new solution is i changes overflows unchanged added tally fits =
     let none : solution.overflows ≡ false = is.overflows ∙ or_left (has_large_constant new) _ (sym tally.overflow ∙ fits) in
     ap (λ ts. record { constant = solution.form.constant; terms = ts }) is.terms ∙ ap (λ k. record { constant = k; terms = new.terms }) (is.constant none)

@@ -1,6 +1,6 @@
 -- The pivot's new form replaces it, form by form.
 use Rattle.std.proofs.Common.{◌≡◌, ℕ, ◌+◌, ◌-◌, ◌<◌, ◌≤◌, ◌^◌, min, ℤ, ◌+ℤ◌, unsigned_abs, Bool, true, false, ◌||◌, cond, leb, ltb, List, [], ◌∷◌, ◌++◌, Option, Some, None, Ok, Err, zero, suc, map, length, get_or, set, take, drop, refl, sym, ap, ◌∙◌, subst, arith}
-use Rattle.std.specs.List.{All, list_any, sum_by, fold}
+use Rattle.std.specs.List.{list_any, sum_by, fold}
 use Rattle.std.specs.Option.{option_map}
 use Rattle.std.proofs.lemmas.Bool.{ltb-true, ltb-false, le-leb, leb-true}
 use Rattle.std.proofs.lemmas.List.{take_more, drop_more, take_all, drop_all, append-nil, length-map, append_assoc, length-take-le}
@@ -13,12 +13,13 @@ use Rattle.mp_forms.specs.Ratios.{times_fraction}
 use Rattle.mp_forms.specs.Terms.{sum_terms, is_too_large}
 use Rattle.mp_forms.specs.Forms.{LinearForm, sum_of}
 use Rattle.mp_solver.specs.declared.solution.Replacement.{Replacement}
-use Rattle.mp_solver.specs.declared.solution.Replacement.TheVariants.{Kept, Changed, Overflows, TooLarge}
+use Rattle.mp_solver.specs.declared.solution.Replacement.TheVariants.{Absent, Changed, Overflows, TooLarge}
 use Rattle.mp_solver.specs.declared.change.Change.{Change}
 use Rattle.mp_solver.specs.States.{States}
 use Rattle.mp_solver.specs.Elimination.{without, term_of, replaced, replaced_term, forms_in, has_large_coefficient, has_large_constant, term_count}
-use Rattle.mp_solver.specs.Solution.{replaced_sum, replacement_of}
-use Rattle.mp_solver.specs.Ready.{with_change}
+use Rattle.mp_solver.specs.Storage.Solution.{replaced_sum, replacement_of}
+use Rattle.mp_solver.specs.Storage.Changes.{with_change}
+use Rattle.mp_solver.specs.Storage.Tally.{IsCount, IsTally}
 
 module _ (serial : ℕ) (new : LinearForm) (k : ℤ) (overflows : Bool) (same : overflows ≡ false → k ≡ new.constant) where
   -- the new form as it is held
@@ -27,7 +28,7 @@ module _ (serial : ℕ) (new : LinearForm) (k : ℤ) (overflows : Bool) (same : 
 
   -- what the answer says of the form q that it stands for
   abbrev pub Says : LinearForm → LinearForm → Replacement → Type 0
-  Says p q Kept = q ≡ p
+  Says p q Absent = q ≡ p
   Says p q (Changed form) = (has_large_coefficient q ≡ false) × (overflows ≡ false → (form ≡ q) × (has_large_constant q ≡ false))
   Says p q Overflows = (has_large_coefficient q ≡ false) × (overflows ≡ false → has_large_constant q ≡ true)
   Says p q TooLarge = has_large_coefficient q ≡ true
@@ -115,44 +116,6 @@ set-seam [] ys old y (suc i) is = absurd (omega (arith, is))
 set-seam (x ∷ xs) ys old y zero is = absurd (omega (arith, is))
 set-seam (x ∷ xs) ys old y (suc i) is = ap (λ zs. x ∷ zs) (set-seam xs ys old y i (omega (arith, is)))
 
--- how many terms there are, where the first so many forms are new: those of the forms that are kept, and those of
--- the new ones, which are counted to the limit alone
-pub record IsCount (new : LinearForm) (kept made total : ℕ) : Type 0 where
-  pub changed : ℕ
-  pub made_is : made ≡ min (length new.terms + changed) 4000001
-  pub total_is : kept + changed ≡ total
-
--- how far the replacement has come: to the form at i, with these changes, an overflow or none, and so many terms
-pub record IsTally (states : States) (serial : ℕ) (new : LinearForm) (i : ℕ) (changes : List Change) (overflows : Bool) (kept made : ℕ) : Type 0 where
-  pub small : list_any has_large_coefficient (forms_in (take i (map (option_map (replaced serial new)) states))) ≡ false
-  pub overflow : overflows ≡ (has_large_constant new || list_any has_large_constant (forms_in (take i (map (option_map (replaced serial new)) states))))
-  pub applied : overflows ≡ false → fold with_change states changes ≡ take i (map (option_map (replaced serial new)) states) ++ drop i states
-  pub counted : overflows ≡ false → IsCount new kept made (term_count (take i (map (option_map (replaced serial new)) states)) + term_count (drop i states))
-  pub rest : term_count (drop i states) ≤ kept
-  pub few : kept ≤ 4000000
-  pub bounded : made ≤ 4000001
-  pub within : All (λ change. change.index < length states) changes
-
-pub IsTally-start : (states : States) (serial : ℕ) (new : LinearForm) (overflows : Bool) (kept made : ℕ) → overflows ≡ has_large_constant new → kept ≡ term_count states → kept ≤ 4000000 → made ≡ min (0 + length new.terms) 4000001 → IsTally states serial new 0 [] overflows kept made
-IsTally-start states serial new overflows kept made is all few count = record {
-  small = refl;
-  overflow = is ∙ sym (or_false_right (has_large_constant new));
-  applied = λ _. refl;
-  counted = λ _. record { changed = 0; made_is = omega (arith, count); total_is = omega (arith, all) };
-  rest = omega (arith, all);
-  few = few;
-  bounded = omega (arith, count);
-  within = All-nil (λ change. change.index < length states);
-}
-
-or_true_left : (a b : Bool) → a ≡ true → (a || b) ≡ true
-or_true_left true b e = refl
-or_true_left false b e = absurd cc
-
-or_split : (a b : Bool) → (a || b) ≡ false → (a ≡ false) × (b ≡ false)
-or_split true b e = absurd cc
-or_split false b e = (refl, e)
-
 stays_by : (a b : Bool) → (a ≡ false → b ≡ false) → a ≡ (a || b)
 stays_by true b none = refl
 stays_by false b none = sym (none refl)
@@ -161,12 +124,12 @@ grows_by : (a b : Bool) → (a ≡ false → b ≡ true) → true ≡ (a || b)
 grows_by true b some = refl
 grows_by false b some = sym (some refl)
 
-module _ (states : States) (serial : ℕ) (new : LinearForm) (i : ℕ) (changes : List Change) (overflows : Bool) (kept made : ℕ) (so_far : IsTally states serial new i changes overflows kept made) where
+module _ (states : States) (serial : ℕ) (new : LinearForm) (i : ℕ) (changes : List Change) (overflows : Bool) (unchanged added : ℕ) (so_far : IsTally states serial new i changes overflows unchanged added) where
   abbrev all_mapped : States
   all_mapped = map (option_map (replaced serial new)) states
 
   -- there is no state any more
-  pub IsTally-past : length states ≤ i → IsTally states serial new (i + 1) changes overflows kept made
+  pub IsTally-past : length states ≤ i → IsTally states serial new (i + 1) changes overflows unchanged added
   IsTally-past past =
       let same = length-map states (option_map (replaced serial new)) in
       let front : take (i + 1) all_mapped ≡ take i all_mapped = take_all (i + 1) all_mapped (omega (arith, past, same)) ∙ sym (take_all i all_mapped (omega (arith, past, same))) in
@@ -174,7 +137,7 @@ module _ (states : States) (serial : ℕ) (new : LinearForm) (i : ℕ) (changes 
       record {
         small = ap (λ ss. list_any has_large_coefficient (forms_in ss)) front ∙ so_far.small;
         overflow = so_far.overflow ∙ ap (λ ss. has_large_constant new || list_any has_large_constant (forms_in ss)) (sym front);
-        applied = λ fits. rw (front, back) (so_far.applied fits);
+        applied = λ fits few. rw (front, back) (so_far.applied fits few);
         counted = λ fits. rw (front, back) (so_far.counted fits);
         rest = rw back so_far.rest;
         few = so_far.few;
@@ -182,7 +145,7 @@ module _ (states : States) (serial : ℕ) (new : LinearForm) (i : ℕ) (changes 
         within = so_far.within;
       }
 
-module _ (states : States) (serial : ℕ) (new : LinearForm) (i : ℕ) (changes : List Change) (overflows : Bool) (kept made : ℕ) (so_far : IsTally states serial new i changes overflows kept made) (at : i < length states) where
+module _ (states : States) (serial : ℕ) (new : LinearForm) (i : ℕ) (changes : List Change) (overflows : Bool) (unchanged added : ℕ) (so_far : IsTally states serial new i changes overflows unchanged added) (at : i < length states) where
   abbrev mapped : States
   mapped = map (option_map (replaced serial new)) states
 
@@ -193,7 +156,7 @@ module _ (states : States) (serial : ℕ) (new : LinearForm) (i : ℕ) (changes 
   in_mapped = let same = length-map states (option_map (replaced serial new)) in omega (arith, at, same)
 
   -- an independent unknown
-  pub IsTally-none : get_or states i None ≡ None → IsTally states serial new (i + 1) changes overflows kept made
+  pub IsTally-none : get_or states i None ≡ None → IsTally states serial new (i + 1) changes overflows unchanged added
   IsTally-none none =
       let m : get_or mapped i None ≡ None = get_or-map (replaced serial new) states i ∙ ap (option_map (replaced serial new)) none in
       let next : take (i + 1) mapped ≡ done ++ None ∷ [] = take_more mapped i None in_mapped ∙ ap (λ s. done ++ s ∷ []) m in
@@ -203,11 +166,11 @@ module _ (states : States) (serial : ℕ) (new : LinearForm) (i : ℕ) (changes 
       record {
         small = ap (list_any has_large_coefficient) forms ∙ so_far.small;
         overflow = so_far.overflow ∙ ap (λ fs. has_large_constant new || list_any has_large_constant fs) (sym forms);
-        applied = λ fits. so_far.applied fits ∙ ap (λ ss. done ++ ss) split ∙ sym (append_assoc done (None ∷ []) (drop (i + 1) states)) ∙ ap (λ ss. ss ++ drop (i + 1) states) (sym next);
+        applied = λ fits few. so_far.applied fits few ∙ ap (λ ss. done ++ ss) split ∙ sym (append_assoc done (None ∷ []) (drop (i + 1) states)) ∙ ap (λ ss. ss ++ drop (i + 1) states) (sym next);
         counted = λ fits.
             let before = so_far.counted fits in
             let front : term_count (take (i + 1) mapped) ≡ term_count done = ap (sum_by (λ p. length p.terms)) forms in
-            record { changed = before.changed; made_is = before.made_is; total_is = let total = before.total_is in omega (arith, total, front, rest) };
+            record { changed = before.changed; added_is = before.added_is; total_is = let total = before.total_is in omega (arith, total, front, rest) };
         rest = omega (arith, so_far.rest, rest);
         few = so_far.few;
         bounded = so_far.bounded;
@@ -233,8 +196,8 @@ module _ (states : States) (serial : ℕ) (new : LinearForm) (i : ℕ) (changes 
     split : drop i states ≡ Some form ∷ drop (i + 1) states
     split = drop_more states i None at ∙ ap (λ s. s ∷ drop (i + 1) states) some
 
-    applied_before : overflows ≡ false → fold with_change states changes ≡ done ++ Some form ∷ drop (i + 1) states
-    applied_before fits = so_far.applied fits ∙ ap (λ ss. done ++ ss) split
+    applied_before : overflows ≡ false → added ≤ 4000000 → fold with_change states changes ≡ done ++ Some form ∷ drop (i + 1) states
+    applied_before fits few = so_far.applied fits few ∙ ap (λ ss. done ++ ss) split
 
     applied_next : done ++ Some q ∷ drop (i + 1) states ≡ take (i + 1) mapped ++ drop (i + 1) states
     applied_next = sym (append_assoc done (Some q ∷ []) (drop (i + 1) states)) ∙ ap (λ ss. ss ++ drop (i + 1) states) (sym next)
@@ -254,20 +217,20 @@ module _ (states : States) (serial : ℕ) (new : LinearForm) (i : ℕ) (changes 
     count_next : term_count (take (i + 1) mapped) ≡ term_count done + length q.terms
     count_next = ap term_count next ∙ term_count-more done q
 
-    -- the terms of the form are among those of the forms that are kept
-    pub kept_terms : length form.terms ≤ kept
-    kept_terms = omega (arith, so_far.rest, rest_before)
+    -- the terms of the form are among those of the forms that are unchanged
+    pub unchanged_terms : length form.terms ≤ unchanged
+    unchanged_terms = omega (arith, so_far.rest, rest_before)
 
     -- a form that stays
-    pub IsTally-kept : q ≡ form → has_large_coefficient form ≡ false → has_large_constant form ≡ false → IsTally states serial new (i + 1) changes overflows kept made
-    IsTally-kept is small constant = record {
+    pub IsTally-unchanged : q ≡ form → has_large_coefficient form ≡ false → has_large_constant form ≡ false → IsTally states serial new (i + 1) changes overflows unchanged added
+    IsTally-unchanged is small constant = record {
       small = small_next (ap has_large_coefficient is ∙ small);
       overflow = overflow_next overflows (sym (ap (λ b. overflows || b) (ap has_large_constant is ∙ constant) ∙ or_false_right overflows));
-      applied = λ fits. applied_before fits ∙ ap (λ f. done ++ Some f ∷ drop (i + 1) states) (sym is) ∙ applied_next;
+      applied = λ fits few. applied_before fits few ∙ ap (λ f. done ++ Some f ∷ drop (i + 1) states) (sym is) ∙ applied_next;
       counted = λ fits.
           let before = so_far.counted fits in
           let same : length q.terms ≡ length form.terms = ap (λ p. length p.terms) is in
-          record { changed = before.changed; made_is = before.made_is; total_is = let total = before.total_is in omega (arith, total, same, rest_before, count_next) };
+          record { changed = before.changed; added_is = before.added_is; total_is = let total = before.total_is in omega (arith, total, same, rest_before, count_next) };
       rest = omega (arith, so_far.rest, rest_before);
       few = so_far.few;
       bounded = so_far.bounded;
@@ -275,41 +238,57 @@ module _ (states : States) (serial : ℕ) (new : LinearForm) (i : ℕ) (changes 
     }
 
     -- a form that is another one now; where the new form itself overflows, it may be any
-    pub IsTally-changed : (f : LinearForm) (less more : ℕ) → has_large_coefficient q ≡ false → (overflows ≡ false → (f ≡ q) × (has_large_constant q ≡ false)) →
-        less ≡ kept - length form.terms → more ≡ min (made + length f.terms) 4000001 →
-        IsTally states serial new (i + 1) (changes ++ record { index = i; form = f } ∷ []) overflows less more
-    IsTally-changed f less more small is fewer count = record {
-      small = small_next small;
-      overflow = overflow_next overflows (stays_by overflows (has_large_constant q) (λ fits. (is fits).1));
-      applied = λ fits.
-          fold-append with_change states changes (record { index = i; form = f } ∷ [])
-          ∙ ap (λ ss. set ss i (Some f)) (applied_before fits)
-          ∙ set-seam done (drop (i + 1) states) (Some form) (Some f) i length_done
-          ∙ ap (λ f. done ++ Some f ∷ drop (i + 1) states) (is fits).0
-          ∙ applied_next;
-      counted = λ fits.
+    module _ (f : LinearForm) (less more : ℕ) (small : has_large_coefficient q ≡ false) (is : overflows ≡ false → (f ≡ q) × (has_large_constant q ≡ false))
+        (fewer : less ≡ unchanged - length form.terms) (count : more ≡ min (added + length f.terms) 4000001) where
+      counted_next : overflows ≡ false → IsCount new less more (term_count (take (i + 1) mapped) + term_count (drop (i + 1) states))
+      counted_next fits =
           let before = so_far.counted fits in
           let same : length f.terms ≡ length q.terms = ap (λ p. length p.terms) (is fits).0 in
-          let made_before = before.made_is in
+          let added_before = before.added_is in
           let total = before.total_is in
           record {
             changed = before.changed + length q.terms;
-            made_is = omega (arith, count, same, made_before);
-            total_is = omega (arith, fewer, kept_terms, total, rest_before, count_next);
-          };
-      rest = omega (arith, fewer, so_far.rest, rest_before);
-      few = omega (arith, fewer, so_far.few);
-      bounded = omega (arith, count);
-      within = All-append (λ change. change.index < length states) changes (record { index = i; form = f } ∷ []) so_far.within
-          (All-cons (λ change. change.index < length states) (record { index = i; form = f }) [] at (All-nil (λ change. change.index < length states)));
-    }
+            added_is = omega (arith, count, same, added_before);
+            total_is = omega (arith, fewer, unchanged_terms, total, rest_before, count_next);
+          }
+
+      pub IsTally-changed : more ≤ 4000000 → IsTally states serial new (i + 1) (changes ++ record { index = i; form = f } ∷ []) overflows less more
+      IsTally-changed held = record {
+        small = small_next small;
+        overflow = overflow_next overflows (stays_by overflows (has_large_constant q) (λ fits. (is fits).1));
+        applied = λ fits few.
+            fold-append with_change states changes (record { index = i; form = f } ∷ [])
+            ∙ ap (λ ss. set ss i (Some f)) (applied_before fits (omega (arith, count, held)))
+            ∙ set-seam done (drop (i + 1) states) (Some form) (Some f) i length_done
+            ∙ ap (λ f. done ++ Some f ∷ drop (i + 1) states) (is fits).0
+            ∙ applied_next;
+        counted = counted_next;
+        rest = omega (arith, fewer, so_far.rest, rest_before);
+        few = omega (arith, fewer, so_far.few);
+        bounded = omega (arith, count);
+        within = All-append (λ change. change.index < length states) changes (record { index = i; form = f } ∷ []) so_far.within
+            (All-cons (λ change. change.index < length states) (record { index = i; form = f }) [] at (All-nil (λ change. change.index < length states)));
+      }
+
+      -- the same beyond the limit of terms
+      pub IsTally-beyond : 4000000 < more → IsTally states serial new (i + 1) changes overflows less more
+      IsTally-beyond beyond = record {
+        small = small_next small;
+        overflow = overflow_next overflows (stays_by overflows (has_large_constant q) (λ fits. (is fits).1));
+        applied = λ fits few. absurd (omega (arith, beyond, few));
+        counted = counted_next;
+        rest = omega (arith, fewer, so_far.rest, rest_before);
+        few = omega (arith, fewer, so_far.few);
+        bounded = omega (arith, count);
+        within = so_far.within;
+      }
 
     -- a form that overflows
-    pub IsTally-overflows : has_large_coefficient q ≡ false → (overflows ≡ false → has_large_constant q ≡ true) → IsTally states serial new (i + 1) changes true kept made
+    pub IsTally-overflows : has_large_coefficient q ≡ false → (overflows ≡ false → has_large_constant q ≡ true) → IsTally states serial new (i + 1) changes true unchanged added
     IsTally-overflows small large = record {
       small = small_next small;
       overflow = overflow_next true (grows_by overflows (has_large_constant q) large);
-      applied = λ fits. absurd cc;
+      applied = λ fits few. absurd cc;
       counted = λ fits. absurd cc;
       rest = omega (arith, so_far.rest, rest_before);
       few = so_far.few;

@@ -1,15 +1,14 @@
 -- Lists of terms: which serials are in what is made of them, and which term comes first by magnitude.
-use Rattle.std.proofs.Common.{◌≡◌, ◌≢◌, ℕ, ◌+◌, ◌<◌, ◌≤◌, ◌^◌, ℤ, ◌+ℤ◌, unsigned_abs, Bool, true, false, not, cond, leb, ltb, eqb, List, [], ◌∷◌, ◌++◌, Some, None, length, get_or, take, drop, refl, sym, ap, ◌∙◌, arith}
+use Rattle.std.proofs.Common.{◌≡◌, ◌≢◌, ℕ, ◌+◌, ◌<◌, ◌≤◌, ◌^◌, ℤ, ◌+ℤ◌, unsigned_abs, Bool, true, false, not, cond, ltb, eqb, List, [], ◌∷◌, ◌++◌, Some, None, length, get_or, take, drop, refl, sym, ap, ◌∙◌, arith}
 use Rattle.std.specs.List.{All, best_of}
 use Rattle.std.specs.Ordering.{nat_cmp, match_ordering}
 use Rattle.std.specs.declared.cmp.Ordering.TheVariants.{Less, Equal, Greater}
 use Rattle.std.proofs.lemmas.Bool.{ltb-true, ltb-false, eq-eqb, ne_eqb}
-use Rattle.std.proofs.lemmas.List.{take_more, take-append-drop}
+use Rattle.std.proofs.lemmas.List.{flat_map_more, take_more, take-append-drop}
 use Rattle.std.proofs.lemmas.List.Elements.{All-nil, All-cons, All-head, All-tail, All-append}
 use Rattle.std.proofs.lemmas.List.Folds.{find-append}
 use Rattle.mp_pool.specs.declared.Term.{Term}
-use Rattle.mp_forms.specs.Terms.{joint_term, lone_term, changed_terms, with_term, sum_terms, AreTerms}
-use Rattle.mp_forms.proofs.TermLemmas.{AreOrdered-changed_terms}
+use Rattle.mp_forms.specs.Terms.{joint_term, lone_term, changed_terms, with_term, sum_terms, AreTerms, StayInOrder}
 use Rattle.mp_solver.specs.Elimination.{outranks, pivot_of, without, term_of, over_negative}
 use Rattle.mp_solver.proofs.QuotientLemmas.{over_negative_small}
 
@@ -23,7 +22,7 @@ module _ (P : ℕ → Type 0) where
   Each-cond false t p = All-cons (λ t. P t.serial) t [] p (All-nil (λ t. P t.serial))
 
   Each-lone_term : (serial : ℕ) (c : ℤ) → P serial → Each (lone_term serial c)
-  Each-lone_term serial c p = Each-cond (leb (unsigned_abs c) 1342) (record { serial = serial; coefficient = c }) p
+  Each-lone_term serial c p = Each-cond (ltb (unsigned_abs c) 1343) (record { serial = serial; coefficient = c }) p
 
   Each-joint_term : (serial : ℕ) (c : ℤ) → P serial → Each (joint_term serial c)
   Each-joint_term serial c p = Each-cond (ltb (unsigned_abs c) 2685) (record { serial = serial; coefficient = c }) p
@@ -149,15 +148,27 @@ small-changed_terms change [] small = All-nil IsSmall
 small-changed_terms change (t ∷ ts) small =
     let c = change t.coefficient in
     All-append IsSmall (lone_term t.serial c) (changed_terms change ts)
-    (small_cond (leb (unsigned_abs c) 1342) (record { serial = t.serial; coefficient = c }) (All-head (λ t. unsigned_abs (change t.coefficient) < 2 ^ 44) t ts small))
+    (small_cond (ltb (unsigned_abs c) 1343) (record { serial = t.serial; coefficient = c }) (All-head (λ t. unsigned_abs (change t.coefficient) < 2 ^ 44) t ts small))
     (small-changed_terms change ts (All-tail (λ t. unsigned_abs (change t.coefficient) < 2 ^ 44) t ts small))
 
+-- no coefficient is too large after a division by the greatest
+pub small-over_negative : (v : ℤ) (ts : List Term) → 0 < unsigned_abs v → All (λ t. unsigned_abs t.coefficient ≤ unsigned_abs v) ts → All IsSmall (changed_terms (over_negative v) ts)
+small-over_negative v ts some greatest =
+    small-changed_terms (over_negative v) ts (λ i d lt. omega (arith, over_negative_small v (get_or ts i d).coefficient some (greatest i d lt)))
+
 -- the terms of a form that is divided by the greatest of its coefficients
-pub AreTerms-over_negative : (v : ℤ) (ts : List Term) → 0 < unsigned_abs v → All (λ t. unsigned_abs t.coefficient ≤ unsigned_abs v) ts → AreTerms ts → AreTerms (changed_terms (over_negative v) ts)
-AreTerms-over_negative v ts some greatest are =
-    let ordered = AreOrdered-changed_terms (over_negative v) ts are in
-    let small = small-changed_terms (over_negative v) ts (λ i d lt. omega (arith, over_negative_small v (get_or ts i d).coefficient some (greatest i d lt))) in
+pub AreTerms-over_negative : (order : StayInOrder) (v : ℤ) (ts : List Term) → 0 < unsigned_abs v → All (λ t. unsigned_abs t.coefficient ≤ unsigned_abs v) ts → AreTerms ts → AreTerms (changed_terms (over_negative v) ts)
+AreTerms-over_negative order v ts some greatest are =
+    let ordered = order.multiples (over_negative v) ts are in
+    let small = small-over_negative v ts some greatest in
     record {
       serials = ordered.serials;
       coefficients = λ i d lt. (ordered.nonzero i d lt, small i d lt);
     }
+
+-- one more term with a changed coefficient
+pub changed_terms-more : (change : ℤ → ℤ) (before ts : List Term) (i : ℕ) (d : Term) → i < length ts →
+    (before ++ changed_terms change (take i ts)) ++ lone_term (get_or ts i d).serial (change (get_or ts i d).coefficient) ≡ before ++ changed_terms change (take (i + 1) ts)
+changed_terms-more change before ts i d lt =
+    flat_map_more (λ t. lone_term t.serial (change t.coefficient)) before (take i ts) (get_or ts i d)
+    ∙ ap (λ us. before ++ changed_terms change us) (sym (take_more ts i d lt))

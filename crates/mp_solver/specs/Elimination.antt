@@ -8,6 +8,7 @@ use Rattle.mp_forms.specs.Terms.{changed_terms, sum_terms, is_too_large, HasTooL
 use Rattle.mp_forms.specs.Forms.{LinearForm}
 use Rattle.mp_solver.specs.declared.equated.Equated.{Equated}
 use Rattle.mp_solver.specs.declared.equated.Equated.TheVariants.{Accepted, Redundant, Inconsistent, CoefficientTooLarge, Overflow, Limit}
+use Rattle.mp_solver.specs.declared.limits.TheConstants.{TERM_LIMIT}
 use Rattle.mp_solver.specs.States.{States}
 
 -- t has a greater magnitude than u
@@ -69,11 +70,11 @@ abbrev pub term_count : States → ℕ
 term_count states = sum_by (λ p. length p.terms) (forms_in states)
 
 -- the states after a solved equation, where they are within the limits, and those before it where they are not
-abbrev pub within_limits : States → States → Equated × States
-within_limits before after =
+abbrev pub answer_by_limits : States → States → Equated × States
+answer_by_limits before after =
     cond (list_any has_large_coefficient (forms_in after)) (CoefficientTooLarge, before)
     (cond (list_any has_large_constant (forms_in after)) (Overflow, before)
-    (cond (nat_lt 4000000 (term_count after)) (Limit, before) (Accepted, after)))
+    (cond (nat_lt TERM_LIMIT (term_count after)) (Limit, before) (Accepted, after)))
 
 -- an equation between known numbers, whose difference is this, in units of 2^-16
 abbrev pub judged : ℤ → Equated
@@ -81,7 +82,7 @@ judged residual = cond (nat_le (unsigned_abs residual) 64) (Redundant residual) 
 
 abbrev pub eliminate_by : States → LinearForm → Option Term → Equated × States
 eliminate_by states residual None = (judged residual.constant, states)
-eliminate_by states residual (Some pivot) = within_limits states (solved_states states pivot (solved_for pivot residual))
+eliminate_by states residual (Some pivot) = answer_by_limits states (solved_states states pivot (solved_for pivot residual))
 
 -- the answer to an equation, and the states after it
 abbrev pub eliminate : States → LinearForm → Equated × States
@@ -107,9 +108,9 @@ HasLargeCoefficient states = Any (λ p. HasTooLarge p.terms) (forms_in states)
 abbrev pub HasLargeConstant : States → Type 0
 HasLargeConstant states = Any (λ p. 2 ^ 31 ≤ unsigned_abs p.constant) (forms_in states)
 
--- the forms have more than 4,000,000 terms
+-- the forms have more terms than they may have
 abbrev pub HasManyTerms : States → Type 0
-HasManyTerms states = 4000000 < term_count states
+HasManyTerms states = TERM_LIMIT < term_count states
 
 -- an equation by which a coefficient would become too large
 abbrev pub IsTooLarge : States → LinearForm → Type 0

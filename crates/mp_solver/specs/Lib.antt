@@ -1,9 +1,8 @@
 pub mod States
+pub mod Known
 pub mod Reduction
 pub mod Elimination
-pub mod Solution
-pub mod Replay
-pub mod Ready
 pub mod Solved
-pub mod Known
-pub mod Places
+pub mod Ready
+pub mod Replay
+pub mod Storage

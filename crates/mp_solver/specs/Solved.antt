@@ -1,7 +1,8 @@
 -- The systems that the calls make: every equation is solved.
-use Rattle.std.specs.Prelude.{◌≡◌, ℕ, ◌≤◌, ◌<◌, ◌^◌, unsigned_abs, List, Option, None, All, length}
+use Rattle.std.specs.Prelude.{◌≡◌, ◌≤◌, ◌<◌, ◌^◌, unsigned_abs, None, All}
 use Rattle.mp_forms.specs.Terms.{AreTerms}
 use Rattle.mp_forms.specs.Forms.{LinearForm}
+use Rattle.mp_solver.specs.declared.limits.TheConstants.{TERM_LIMIT}
 use Rattle.mp_solver.specs.States.{States, form_of, IsOver}
 use Rattle.mp_solver.specs.Elimination.{forms_in, term_count}
 
@@ -18,12 +19,4 @@ pub record IsSolvedForm (states : States) (p : LinearForm) : Type 0 where
 -- no dependent unknown occurs in any dependent form, and the forms are within the limits
 pub record IsSolved (states : States) : Type 0 where
   pub forms : All (IsSolvedForm states) (forms_in states)
-  pub few_terms : term_count states ≤ 4000000
-
--- what a system keeps: a name or none for each unknown, at most a million of them, and how many forms and terms there are
-pub record IsKept (states : States) (names : List (Option (List ℕ))) (dependent terms : ℕ) : Type 0 where
-  pub names_length : length names ≡ length states
-  pub states_length : length states ≤ 1000000
-  pub dependent_count : dependent ≡ length (forms_in states)
-  pub terms_count : terms ≡ term_count states
-  pub solved : IsSolved states
+  pub few_terms : term_count states ≤ TERM_LIMIT

@@ -10,16 +10,19 @@
 mod change;
 mod equated;
 mod fresh;
-mod places;
+mod limits;
 mod replay;
+mod rows;
 mod solution;
 mod state;
 mod system;
+mod tally;
 mod view;
 
 pub use equated::Equated;
 pub use fresh::Fresh;
-pub use replay::systems_are_replays;
+pub use limits::{TERM_LIMIT, UNKNOWN_LIMIT};
+pub use replay::{replays_go_on, systems_are_replays};
 pub use state::State;
 pub use system::{Ready, System};
 pub use view::{FormView, Terms};

@@ -3,10 +3,10 @@
 ghost use Rattle.std.specs.Prelude.{◌≡◌, ◌↔◌, ◌<◌, ◌≤◌, ◌^◌, ◌++◌, unsigned_abs, All, IfOk, OnOk, IfSome, IsNone};
 ghost use Rattle.mp_forms.specs.Terms.{lone_term, changed_terms, AreTerms};
 ghost use Rattle.mp_solver.specs.Elimination.{pivot_of, without, over_negative, solved_for, term_of, judged};
-ghost use Rattle.mp_solver.specs.Solution.{IsSolution, replaced_sum, replacement_of};
+ghost use Rattle.mp_solver.specs.Storage.Solution.{IsSolution, replaced_sum, replacement_of};
 
 use crate::Equated;
-use mp_forms::{Form, FormFault};
+use mp_forms::{Form, FormFault, terms_stay_in_order};
 use mp_pool::Term;
 use mp_scaled::{NoMemory, make_fraction};
 use std::alloc::Global;
@@ -39,6 +39,7 @@ pub fn solved_for(alloc: Global, pivot: Term, residual: &Form) -> Result<Solutio
     requires greatest { All (λ t. unsigned_abs t.coefficient ≤ unsigned_abs pivot.coefficient) residual.now.terms }
     ensures { IfOk result (λ solution. IsSolution solution (solved_for pivot residual.now)) }
 {
+    terms_stay_in_order();
     let constant = over_negative(pivot.coefficient, i64::from(residual.constant()));
     let others = without(alloc, pivot.serial, residual.terms())?;
     let terms = quotients(alloc, pivot.coefficient, &others)?;
@@ -78,7 +79,7 @@ fn without(alloc: Global, serial: u32, terms: &[Term]) -> Result<Vec<Term>, NoMe
 fn push_term(to: &mut Vec<Term>, serial: u32, coefficient: i32) -> Result<(), NoMemory>
     ensures { OnOk result (to.new.items ≡ to.old.items ++ lone_term serial coefficient) }
 {
-    if coefficient.unsigned_abs() > HALF_THRESHOLD {
+    if coefficient.unsigned_abs() >= LEAST_LONE {
         to.push(Term {
             serial,
             coefficient: i64::from(coefficient),
@@ -87,8 +88,8 @@ fn push_term(to: &mut Vec<Term>, serial: u32, coefficient: i32) -> Result<(), No
     Ok(())
 }
 
-/// A new coefficient is dropped up to this magnitude.
-const HALF_THRESHOLD: u32 = 1342;
+/// A new coefficient stays from this magnitude on.
+const LEAST_LONE: u32 = 1343;
 
 /// The terms divided by `-v`.
 fn quotients(alloc: Global, v: i64, terms: &[Term]) -> Result<Vec<Term>, NoMemory>
@@ -111,7 +112,7 @@ fn quotients(alloc: Global, v: i64, terms: &[Term]) -> Result<Vec<Term>, NoMemor
 #[derive(Drop)]
 pub enum Replacement {
     /// The pivot does not occur.
-    Kept,
+    Absent,
     /// It is this form, unless the new form's own constant overflows.
     Changed(Form),
     /// Its constant overflows.
@@ -120,7 +121,7 @@ pub enum Replacement {
     TooLarge,
 }
 
-/// The form with a new one in the place of an unknown.
+/// The form with a new one in the row of an unknown.
 pub fn with_replaced(
     alloc: Global,
     serial: u32,
@@ -130,7 +131,7 @@ pub fn with_replaced(
     ensures { IfOk result (λ answer. answer ≡ replacement_of (replaced_sum serial new.now form.now)) }
 {
     let Some(term) = term_of(serial, form.terms()) else {
-        return Ok(Replacement::Kept);
+        return Ok(Replacement::Absent);
     };
     let others = without(alloc, serial, form.terms())?;
     let rest = Form::of_terms(form.constant(), others);

@@ -1,27 +1,30 @@
 //! All unknowns, and what is known of them.
 
-ghost use Rattle.std.specs.Prelude.{ℤ, ◌≡◌, ◌≢◌, ◌↔◌, ◌+◌, ◌-◌, ◌<◌, ◌≤◌, ◌^◌, min, [], None, length, slice_set, slice_index_or, option_copied, IfOk, OnErr, IsTrue};
-ghost use Rattle.mp_solver.specs.States.{form_of, name_of, fresh_of, IsSerial, IsOver};
+ghost use Rattle.std.specs.Prelude.{ℤ, ◌≡◌, ◌≢◌, ◌↔◌, ◌+◌, ◌<◌, ◌≤◌, [], None, length, slice_index_or, option_copied, IfOk, OnErr, IsTrue};
+ghost use Rattle.mp_solver.specs.States.{form_of, name_of, unnamed, fresh_of, IsSerial, IsOver};
 ghost use Rattle.mp_solver.specs.Known.{form_in};
 ghost use Rattle.mp_solver.specs.Reduction.{independent_part, reduce_of};
 ghost use Rattle.mp_solver.specs.Elimination.{forms_in, eliminate, pivot_of, solved_for, IsRedundant, IsInconsistent, IsTooLarge, IsOverflow, IsBeyondLimit, IsAccepted};
-ghost use Rattle.mp_solver.specs.Solved.{IsReduced};
-ghost use Rattle.mp_solver.specs.Solution.{IsSolution};
-ghost use Rattle.mp_solver.specs.Places.{AreHolders};
+ghost use Rattle.mp_solver.specs.Solved.{IsReduced, IsSolved};
+ghost use Rattle.mp_solver.specs.Storage.Solution.{IsSolution};
+ghost use Rattle.mp_solver.specs.Storage.Rows.{AreHolders};
+ghost use Rattle.mp_solver.specs.Storage.Tally.{IsWholeTally};
 ghost use Rattle.mp_solver.specs.Ready.{prepared, IsResidual};
 
 use crate::change::{Change, apply};
-use crate::places::{Places, all_places, make_room};
+use crate::limits::{TERM_LIMIT, UNKNOWN_LIMIT};
+use crate::rows::{Rows, all_rows, make_room};
 use crate::solution::{Replacement, Solution, judged, pivot_of, solved_for, with_replaced};
+use crate::tally::Tally;
 use crate::{Equated, FormView, Fresh, State};
-use mp_forms::{Form, FormFault};
+use mp_forms::{Form, FormFault, terms_stay_in_order};
 use mp_pool::Term;
 use mp_scaled::{Bytes, NoMemory};
 use std::alloc::Global;
 use std::marker::Model;
 use std::snapshot::Snapshot;
 
-/// Unknowns, numbered from 1, which contracts see as their states and their names.
+/// Unknowns, numbered from 1, which contracts see as their states and their names, under `unknowns`.
 ///
 /// A state is the form that a dependent unknown equals, and none where the unknown is independent. No
 /// dependent unknown occurs in any of these forms.
@@ -31,56 +34,52 @@ pub struct System {
     names: Vec<Option<Bytes>>,
     dependent: usize,
     terms: usize,
-    /// For each unknown the places of the forms that it may occur in.
-    holders: Vec<Places>,
+    /// For each unknown the rows of the forms that it may occur in.
+    holders: Vec<Rows>,
     /// Whether no form is missing there. `ready` makes room for what its equation adds, so only a `Ready` of
     /// another system with the same value can find none. Then each equation looks at all forms.
     is_listed: bool,
 }
 
 impl Model for System {
-    ghost use Rattle.mp_solver.specs.States.{Unknowns};
-    ghost use Rattle.mp_solver.specs.Places.{IsIndexed};
+    ghost use Rattle.mp_solver.specs.States.{Solver};
+    ghost use Rattle.mp_solver.specs.Storage.Rows.{IsIndexed};
 
-    ghost Value = { Unknowns };
+    ghost Value = { Solver };
 
-    ghost view = { λ system. record { states = system.states.items; names = system.names.items } };
+    ghost view = { λ system. record { unknowns = record { states = system.states.items; names = system.names.items } } };
 
     ghost invariant = { λ system. IsIndexed system.states.items system.names.items system.dependent system.terms system.holders.items system.is_listed };
 }
 
 /// An equation that was brought up to date, with all that it needs to be taken.
 ///
-/// Contracts see it as the difference of its sides, brought up to date, and the system that it was made for.
+/// Contracts see it as the difference of its sides, brought up to date, and the unknowns that this was done
+/// for.
 #[derive(Drop)]
 pub struct Ready {
     residual: Snapshot<Form>,
-    made_for: Snapshot<System>,
+    system: Snapshot<System>,
     answer: Equated,
     changes: Vec<Change>,
     terms: usize,
 }
 
 impl Model for Ready {
-    ghost use Rattle.mp_solver.specs.Ready.{Prepared, IsReady};
+    ghost use Rattle.mp_solver.specs.Ready.{Prepared};
+    ghost use Rattle.mp_solver.specs.Storage.Changes.{IsReady};
 
     ghost Value = { Prepared };
 
-    ghost view = { λ ready. record { residual = ready.residual.value; made_for = ready.made_for.value } };
+    ghost view = { λ ready. record { residual = ready.residual.value; unknowns = ready.system.value.unknowns } };
 
-    ghost invariant = { λ ready. IsReady ready.made_for.value.states ready.residual.value ready.answer ready.changes.items ready.terms };
+    ghost invariant = { λ ready. IsReady ready.system.value.unknowns.states ready.residual.value ready.answer ready.changes.items ready.terms };
 }
-
-/// The dependent forms may have so many terms.
-const TERM_LIMIT: usize = 4_000_000;
-
-/// So many unknowns can be made.
-const UNKNOWN_LIMIT: usize = 1_000_000;
 
 impl System {
     /// A system without unknowns.
     pub fn new(alloc: Global) -> System
-        ensures { result ≡ record { states = []; names = [] } }
+        ensures { result ≡ record { unknowns = record { states = []; names = [] } } }
     {
         System {
             states: Vec::new(alloc),
@@ -94,8 +93,8 @@ impl System {
 
     /// Makes one more unknown, which is independent. Its serial is the number of unknowns that there are then.
     pub fn fresh(&mut self, name: &[u8]) -> Result<Fresh, NoMemory>
-        ensures exact { IfOk result (λ answer. (answer, self.new) ≡ fresh_of self.old name.now) }
-        ensures limit { IfOk result (λ answer. (answer ≡ Fresh.Limit) ↔ (1000000 ≤ length self.old.states)) }
+        ensures exact { IfOk result (λ answer. (answer, self.new.unknowns) ≡ fresh_of self.old.unknowns name.now) }
+        ensures limit { IfOk result (λ answer. (answer ≡ Fresh.Limit) ↔ (UNKNOWN_LIMIT ≤ length self.old.unknowns.states)) }
         ensures no_memory { OnErr result (self.new ≡ self.old) }
     {
         if self.states.len() >= UNKNOWN_LIMIT {
@@ -106,23 +105,23 @@ impl System {
         self.states.reserve(1)?;
         self.holders.reserve(1)?;
         self.names.push(Some(name))?;
-        self.holders.push(Places::new(alloc))?;
+        self.holders.push(Rows::new(alloc))?;
         self.states.push(None)?;
         Ok(Fresh::Made(self.states.len() as u32))
     }
 
     /// Takes the name of an unknown away.
     pub fn unname(&mut self, serial: u32)
-        requires { IsSerial self.old.states serial }
-        ensures { self.new ≡ record self.old { names = slice_set self.old.names (serial - 1) None } }
+        requires { IsSerial self.old.unknowns.states serial }
+        ensures { self.new ≡ record self.old { unknowns = unnamed self.old.unknowns serial } }
     {
         self.names[serial as usize - 1] = None;
     }
 
     /// The name that an unknown was made with, and none where it was taken away.
     pub fn name(&self, serial: u32) -> Option<&[u8]>
-        requires { IsSerial self.now.states serial }
-        ensures { option_copied result ≡ name_of self.now serial }
+        requires { IsSerial self.now.unknowns.states serial }
+        ensures { option_copied result ≡ name_of self.now.unknowns serial }
     {
         match &self.names[serial as usize - 1] {
             Some(name) => Some(name.as_slice()),
@@ -132,29 +131,29 @@ impl System {
 
     /// The number of unknowns and of accepted equations, each of which made an unknown dependent.
     pub fn changes(&self) -> u64
-        ensures { result ≡ length self.now.states + length (forms_in self.now.states) }
+        ensures { result ≡ length self.now.unknowns.states + length (forms_in self.now.unknowns.states) }
     {
         self.states.len() as u64 + self.dependent as u64
     }
 
     /// Whether all unknowns of a form are among these.
     pub fn has_unknowns_of(&self, form: &Form) -> bool
-        ensures { IsTrue result ↔ IsOver self.now.states form.now }
+        ensures { IsTrue result ↔ IsOver self.now.unknowns.states form.now }
     {
         form.terms().iter().all(|t| 1 <= t.serial && t.serial as usize <= self.states.len())
     }
 
     /// Whether there is an unknown with this serial.
     pub fn has_unknown(&self, serial: u32) -> bool
-        ensures { IsTrue result ↔ IsSerial self.now.states serial }
+        ensures { IsTrue result ↔ IsSerial self.now.unknowns.states serial }
     {
         1 <= serial && serial as usize <= self.states.len()
     }
 
     /// What is known of an unknown.
     pub fn state(&self, serial: u32) -> State<'_>
-        requires { IsSerial self.now.states serial }
-        ensures { form_in result ≡ form_of self.now.states serial }
+        requires { IsSerial self.now.unknowns.states serial }
+        ensures { form_in result ≡ form_of self.now.unknowns.states serial }
     {
         match self.form_of(serial) {
             Some(form) => State::Dependent(FormView::of(form)),
@@ -163,11 +162,34 @@ impl System {
     }
 
     /// What an unknown equals, and none where it is independent.
-    pub fn form_of(&self, serial: u32) -> Option<&Form>
-        requires { IsSerial self.now.states serial }
-        ensures { option_copied result ≡ form_of self.now.states serial }
+    pub(crate) fn form_of(&self, serial: u32) -> Option<&Form>
+        requires { IsSerial self.now.unknowns.states serial }
+        ensures { option_copied result ≡ form_of self.now.unknowns.states serial }
     {
         self.states[serial as usize - 1].as_ref()
+    }
+
+    /// Laws: no dependent unknown occurs in what an unknown equals, and each of these forms is within the limits.
+    pub fn equations_are_solved(&self)
+        ensures solved { IsSolved self.now.unknowns.states }
+        ensures few { length self.now.unknowns.states ≤ UNKNOWN_LIMIT }
+        ensures names { length self.now.unknowns.names ≡ length self.now.unknowns.states }
+    {
+        let _states = &self.states;
+    }
+
+    /// Whether a form is up to date: no dependent unknown occurs in it.
+    pub fn is_reduced(&self, form: &Form) -> bool
+        requires { IsOver self.now.unknowns.states form.now }
+        ensures { IsTrue result ↔ IsReduced self.now.unknowns.states form.now }
+    {
+        let terms = form.terms();
+        'terms: for term in terms {
+            if self.form_of(term.serial).is_some() {
+                return false;
+            }
+        }
+        true
     }
 
     /// A form brought up to date, as a sum in which no dependent unknown occurs.
@@ -175,18 +197,41 @@ impl System {
     /// Its terms of independent unknowns come first; then for each other term, in order, its coefficient times
     /// the form that the unknown equals is added. The first of these sums that is refused is the answer. A form
     /// without dependent unknowns stays as it is.
-    #[tactic(auto, using(crate::proofs::SettledLemmas::reduce_of_reduced))]
     pub fn reduce(&self, alloc: Global, form: &Form) -> Result<Result<Form, FormFault>, NoMemory>
-        requires { IsOver self.now.states form.now }
-        ensures exact { IfOk result (λ answer. answer ≡ reduce_of self.now.states form.now) }
-        ensures settled { IsReduced self.now.states form.now → IfOk result (λ answer. answer ≡ Ok form.now) }
+        requires { IsOver self.now.unknowns.states form.now }
+        ensures exact { IfOk result (λ answer. answer ≡ reduce_of self.now.unknowns.states form.now) }
+        ensures unchanged { IsReduced self.now.unknowns.states form.now → IfOk result (λ answer. answer ≡ Ok form.now) }
+        ensures reduced { IfOk result (λ answer. IfOk answer (IsReduced self.now.unknowns.states)) }
+        ensures over { IfOk result (λ answer. IfOk answer (IsOver self.now.unknowns.states)) }
+        ensures again { IfOk result (λ answer. IfOk answer (λ p. reduce_of self.now.unknowns.states p ≡ Ok p)) }
     {
+        let _states = &self.states;
         self.up_to_date(alloc, form)
     }
 
+    /// The same of a form that is given up for it: where that is up to date already, it is handed back.
+    pub fn reduce_owned(
+        &self,
+        alloc: Global,
+        form: Form,
+    ) -> Result<Result<Form, FormFault>, NoMemory>
+        requires { IsOver self.now.unknowns.states form }
+        ensures exact { IfOk result (λ answer. answer ≡ reduce_of self.now.unknowns.states form) }
+        ensures unchanged { IsReduced self.now.unknowns.states form → IfOk result (λ answer. answer ≡ Ok form) }
+        ensures reduced { IfOk result (λ answer. IfOk answer (IsReduced self.now.unknowns.states)) }
+        ensures over { IfOk result (λ answer. IfOk answer (IsOver self.now.unknowns.states)) }
+        ensures again { IfOk result (λ answer. IfOk answer (λ p. reduce_of self.now.unknowns.states p ≡ Ok p)) }
+    {
+        if self.is_reduced(&form) {
+            Ok(Ok(form))
+        } else {
+            self.reduce(alloc, &form)
+        }
+    }
+
     fn up_to_date(&self, alloc: Global, form: &Form) -> Result<Result<Form, FormFault>, NoMemory>
-        requires { IsOver self.now.states form.now }
-        ensures { IfOk result (λ answer. answer ≡ reduce_of self.now.states form.now) }
+        requires { IsOver self.now.unknowns.states form.now }
+        ensures { IfOk result (λ answer. answer ≡ reduce_of self.now.unknowns.states form.now) }
     {
         let mut sum = self.independent_part(alloc, form)?;
         let terms = form.terms();
@@ -202,8 +247,8 @@ impl System {
     }
 
     fn independent_part(&self, alloc: Global, form: &Form) -> Result<Form, NoMemory>
-        requires { IsOver self.now.states form.now }
-        ensures { IfOk result (λ part. part ≡ independent_part self.now.states form.now) }
+        requires { IsOver self.now.unknowns.states form.now }
+        ensures { IfOk result (λ part. part ≡ independent_part self.now.unknowns.states form.now) }
     {
         let terms = form.terms();
         let mut independent = Vec::with_capacity(alloc, terms.len())?;
@@ -217,28 +262,29 @@ impl System {
 
     /// Takes an equation, and says what it comes to. Only an accepted one changes the system.
     pub fn equate(&mut self, ready: Ready) -> Equated
-        requires { ready.made_for ≡ self.old }
-        ensures exact { (result, self.new.states) ≡ eliminate self.old.states ready.residual }
-        ensures names { self.new.names ≡ self.old.names }
+        requires { ready.unknowns ≡ self.old.unknowns }
+        ensures exact { (result, self.new.unknowns.states) ≡ eliminate self.old.unknowns.states ready.residual }
+        ensures names { self.new.unknowns.names ≡ self.old.unknowns.names }
         ensures redundant { (r : ℤ) → (result ≡ Equated.Redundant r) ↔ IsRedundant ready.residual r }
         ensures inconsistent { (r : ℤ) → (result ≡ Equated.Inconsistent r) ↔ IsInconsistent ready.residual r }
-        ensures too_large { (result ≡ Equated.CoefficientTooLarge) ↔ IsTooLarge self.old.states ready.residual }
-        ensures overflow { (result ≡ Equated.Overflow) ↔ IsOverflow self.old.states ready.residual }
-        ensures limit { (result ≡ Equated.Limit) ↔ IsBeyondLimit self.old.states ready.residual }
-        ensures accepted { (result ≡ Equated.Accepted) ↔ IsAccepted self.old.states ready.residual }
+        ensures too_large { (result ≡ Equated.CoefficientTooLarge) ↔ IsTooLarge self.old.unknowns.states ready.residual }
+        ensures overflow { (result ≡ Equated.Overflow) ↔ IsOverflow self.old.unknowns.states ready.residual }
+        ensures limit { (result ≡ Equated.Limit) ↔ IsBeyondLimit self.old.unknowns.states ready.residual }
+        ensures accepted { (result ≡ Equated.Accepted) ↔ IsAccepted self.old.unknowns.states ready.residual }
         ensures refused { result ≢ Equated.Accepted → self.new ≡ self.old }
     {
         self.take(ready)
     }
 
     fn take(&mut self, ready: Ready) -> Equated
-        requires { ready.made_for ≡ self.old }
-        ensures exact { (result, self.new.states) ≡ eliminate self.old.states ready.residual }
-        ensures names { self.new.names ≡ self.old.names }
+        requires { ready.unknowns ≡ self.old.unknowns }
+        ensures exact { (result, self.new.unknowns.states) ≡ eliminate self.old.unknowns.states ready.residual }
+        ensures names { self.new.unknowns.names ≡ self.old.unknowns.names }
     {
+        terms_stay_in_order();
         let Ready {
             residual: _,
-            made_for: _,
+            system: _,
             answer,
             changes,
             terms,
@@ -250,18 +296,18 @@ impl System {
             self.dependent += 1;
             self.terms = terms;
         }
-        if let Some(place) = pivot {
-            self.forget_holders(place);
+        if let Some(row) = pivot {
+            self.forget_holders(row);
         }
         answer
     }
 
     /// Frees the list of a dependent unknown, which no form holds any more.
-    fn forget_holders(&mut self, place: usize)
+    fn forget_holders(&mut self, row: usize)
         ensures { self.new ≡ self.old }
     {
-        if self.form_at(place).is_some() {
-            self.holders[place] = Places::new(*self.states.allocator());
+        if self.form_at(row).is_some() {
+            self.holders[row] = Rows::new(*self.states.allocator());
         }
     }
 
@@ -270,8 +316,8 @@ impl System {
     /// The answer is for this system as it stands, which it leaves as it is. A difference that cannot be
     /// brought up to date is refused.
     pub fn ready(&mut self, form: &Form) -> Result<Result<Ready, FormFault>, NoMemory>
-        requires { IsOver self.old.states form.now }
-        ensures exact { IfOk result (λ answer. answer ≡ prepared self.old (reduce_of self.old.states form.now)) }
+        requires { IsOver self.old.unknowns.states form.now }
+        ensures exact { IfOk result (λ answer. answer ≡ prepared self.old.unknowns (reduce_of self.old.unknowns.states form.now)) }
         ensures same { self.new ≡ self.old }
     {
         let alloc = *self.states.allocator();
@@ -287,8 +333,8 @@ impl System {
 
     /// What an equation comes to, whose difference is up to date.
     fn eliminated(&self, alloc: Global, residual: &Form) -> Result<Ready, NoMemory>
-        requires { IsResidual self.now.states residual.now }
-        ensures { IfOk result (λ ready. ready ≡ record { residual = residual.now; made_for = self.now }) }
+        requires { IsResidual self.now.unknowns.states residual.now }
+        ensures { IfOk result (λ ready. ready ≡ record { residual = residual.now; unknowns = self.now.unknowns }) }
     {
         match pivot_of(residual.terms()) {
             Some(pivot) => {
@@ -307,74 +353,84 @@ impl System {
         pivot: Term,
         solution: Solution,
     ) -> Result<Ready, NoMemory>
-        requires residual { IsResidual self.now.states residual.now }
+        requires residual { IsResidual self.now.unknowns.states residual.now }
         requires pivot { pivot_of residual.now.terms ≡ Some pivot }
         requires solution { IsSolution solution (solved_for pivot residual.now) }
-        ensures { IfOk result (λ ready. ready ≡ record { residual = residual.now; made_for = self.now }) }
+        ensures { IfOk result (λ ready. ready ≡ record { residual = residual.now; unknowns = self.now.unknowns }) }
     {
-        let places = self.places_of(alloc, pivot.serial)?;
-        let mut changes = Vec::new(alloc);
-        let mut overflows = solution.overflows;
-        let mut kept = self.terms;
-        let mut made = limited(0, solution.form.terms().len());
-        'places: for place in &places {
-            if let Some(old) = self.form_at(*place) {
+        let rows = self.rows_of(alloc, pivot.serial)?;
+        let mut tally = Tally::new(alloc, self.terms, &solution.form, solution.overflows);
+        'rows: for row in &rows {
+            if let Some(old) = self.form_at(*row) {
                 match with_replaced(alloc, pivot.serial, &solution.form, old)? {
-                    Replacement::Kept => {}
-                    Replacement::Changed(form) => {
-                        kept -= old.terms().len();
-                        made = limited(made, form.terms().len());
-                        changes.push(Change {
-                            index: *place,
-                            form,
-                        })?;
-                    }
-                    Replacement::Overflows => overflows = true,
+                    Replacement::Absent => {}
+                    Replacement::Changed(form) => tally.change(*row, old.terms().len(), form)?,
+                    Replacement::Overflows => tally.overflows = true,
                     Replacement::TooLarge => {
                         return Ok(self.refused(alloc, residual, Equated::CoefficientTooLarge));
                     }
                 }
             }
         }
-        if overflows {
+        self.tallied(alloc, residual, pivot, solution.form, tally)
+    }
+
+    /// The answer, once the pivot's new form has replaced it in every form and no coefficient is too large.
+    fn tallied(
+        &self,
+        alloc: Global,
+        residual: &Form,
+        pivot: Term,
+        form: Form,
+        tally: Tally,
+    ) -> Result<Ready, NoMemory>
+        requires residual { IsResidual self.now.unknowns.states residual.now }
+        requires pivot { pivot_of residual.now.terms ≡ Some pivot }
+        requires tally { IsWholeTally self.now.unknowns.states pivot.serial (solved_for pivot residual.now)
+            form tally.changes.items tally.overflows tally.unchanged tally.added }
+        ensures { IfOk result (λ ready. ready ≡ record { residual = residual.now; unknowns = self.now.unknowns }) }
+    {
+        if tally.overflows {
             return Ok(self.refused(alloc, residual, Equated::Overflow));
         }
-        if kept + made > TERM_LIMIT {
+        let terms = tally.unchanged + tally.added;
+        if terms > TERM_LIMIT {
             return Ok(self.refused(alloc, residual, Equated::Limit));
         }
+        let mut changes = tally.changes;
         changes.push(Change {
             index: pivot.serial as usize - 1,
-            form: solution.form,
+            form,
         })?;
         Ok(Ready {
             residual: Snapshot::of(residual),
-            made_for: Snapshot::of(self),
+            system: Snapshot::of(self),
             answer: Equated::Accepted,
             changes,
-            terms: kept + made,
+            terms,
         })
     }
 
-    /// The form at a place.
-    fn form_at(&self, place: usize) -> Option<&Form>
-        ensures { option_copied result ≡ slice_index_or self.now.states place None }
+    /// The form at a row.
+    fn form_at(&self, row: usize) -> Option<&Form>
+        ensures { option_copied result ≡ slice_index_or self.now.unknowns.states row None }
     {
-        self.states.get(place)?.as_ref()
+        self.states.get(row)?.as_ref()
     }
 
-    /// The places of the forms that may hold an unknown, in order.
-    fn places_of(&self, alloc: Global, serial: u32) -> Result<Vec<usize>, NoMemory>
-        requires { IsSerial self.now.states serial }
-        ensures { IfOk result (λ places. AreHolders self.now.states serial 0 places.items) }
+    /// The rows of the forms that may hold an unknown, in order.
+    fn rows_of(&self, alloc: Global, serial: u32) -> Result<Vec<usize>, NoMemory>
+        requires { IsSerial self.now.unknowns.states serial }
+        ensures { IfOk result (λ rows. AreHolders self.now.unknowns.states serial 0 rows.items) }
     {
         if self.is_listed {
             self.holders[serial as usize - 1].in_order(alloc)
         } else {
-            all_places(alloc, self.states.len())
+            all_rows(alloc, self.states.len())
         }
     }
 
-    /// Makes room for the places that an equation adds: each unknown in the pivot's new form, which is the
+    /// Makes room for the rows that an equation adds: each unknown in the pivot's new form, which is the
     /// last, may come into each form that changes.
     fn make_room(&mut self, ready: &Ready) -> Result<(), NoMemory>
         ensures { self.new ≡ self.old }
@@ -387,26 +443,17 @@ impl System {
 
     /// An equation that is not accepted.
     fn refused(&self, alloc: Global, residual: &Form, answer: Equated) -> Ready
-        requires residual { IsResidual self.now.states residual.now }
-        requires answer { (answer, self.now.states) ≡ eliminate self.now.states residual.now }
+        requires residual { IsResidual self.now.unknowns.states residual.now }
+        requires answer { (answer, self.now.unknowns.states) ≡ eliminate self.now.unknowns.states residual.now }
         requires not_accepted { answer ≢ Equated.Accepted }
-        ensures { result ≡ record { residual = residual.now; made_for = self.now } }
+        ensures { result ≡ record { residual = residual.now; unknowns = self.now.unknowns } }
     {
         Ready {
             residual: Snapshot::of(residual),
-            made_for: Snapshot::of(self),
+            system: Snapshot::of(self),
             answer,
             changes: Vec::new(alloc),
             terms: 0,
         }
     }
-}
-
-/// A sum of numbers of terms, but no more than one above the limit.
-fn limited(terms: usize, more: usize) -> usize
-    requires small { terms ≤ 4000001 }
-    requires fits { more < 2 ^ 63 }
-    ensures { result ≡ min (terms + more) 4000001 }
-{
-    (terms + more).min(TERM_LIMIT + 1)
 }

@@ -2,8 +2,8 @@
 use Rattle.std.proofs.Common.{◌≡◌, ℕ, pos, [], ◌∷◌, Some, None, codes, refl}
 use Rattle.mp_symbols.specs.Names.{Names, number_in, with_name}
 use Rattle.mp_symbols.specs.Tables.{Table}
-use Rattle.mp_symbols.specs.Groups.{open_group, save, save_internal, with_symbol, with_internal, close_group}
-use Rattle.mp_symbols.specs.Calls.{closed_times}
+use Rattle.mp_symbols.specs.Groups.{open_group, save, save_internal, with_symbol, close_group}
+use Rattle.mp_symbols.specs.Calls.{Inside, End, Then, Saves, SavesInternal, Group, NumberOf, SetMeaning, SetInternal, ended, after, lasting}
 use Rattle.mp_symbols.specs.declared.saved.Saved.TheVariants.{Boundary, Meaning}
 use Rattle.mp_symbols.specs.declared.closed.Closed.TheVariants as closed
 
@@ -23,7 +23,7 @@ new_name = refl
 absent_name : number_in two_names (codes "A") ≡ None
 absent_name = refl
 
--- outside a group nothing is kept, and nothing undone
+-- outside a group nothing is saved, and nothing undone
 outside : save table 0 5 ≡ with_symbol table 0 5
 outside = refl
 
@@ -34,22 +34,26 @@ nothing_open = refl
 abbrev saved_twice : Table ℕ
 saved_twice = with_symbol (save (save (open_group table) 0 3) 0 4) 0 5
 
-kept_twice : saved_twice ≡ record { names = (codes "a", 5) ∷ (codes "b", 2) ∷ []; internals = pos 10 ∷ []; saved = Meaning 0 3 ∷ Meaning 0 1 ∷ Boundary ∷ [] }
-kept_twice = refl
+undone_later : saved_twice ≡ record { names = (codes "a", 5) ∷ (codes "b", 2) ∷ []; internals = pos 10 ∷ []; saved = Meaning 0 3 ∷ Meaning 0 1 ∷ Boundary ∷ [] }
+undone_later = refl
 
 -- the newest is undone first, and what it had in between is given up
 undone_once : close_group saved_twice ≡ (closed.Meaning 0 5, record { names = (codes "a", 3) ∷ (codes "b", 2) ∷ []; internals = pos 10 ∷ []; saved = Meaning 0 1 ∷ Boundary ∷ [] })
 undone_once = refl
 
-undone_thrice : close_group (closed_times 2 saved_twice) ≡ (closed.Boundary, table)
-undone_thrice = refl
+undone_all : ended saved_twice ≡ table
+undone_all = refl
 
--- an internal, in a group within a group
-abbrev inner_group : Table ℕ
-inner_group = with_internal (save_internal (open_group (save (open_group table) 1 6)) 0) 0 (pos 20)
+-- begingroup a:=6; save a; a:=7; begingroup interim k:=20; save b; a:=8; b:=9; endgroup; c:=1; endgroup
+abbrev inside : Inside ℕ
+inside =
+    Then (SetMeaning 0 6) (Saves 0 0 (Then (SetMeaning 0 7)
+    (Group (SavesInternal 0 (Then (SetInternal 0 (pos 20)) (Saves 1 0 (Then (SetMeaning 0 8) (Then (SetMeaning 1 9) End)))))
+    (Then (NumberOf (codes "c") 1) End))))
 
-inner_end : close_group (closed_times 1 inner_group) ≡ (closed.Boundary, save (open_group table) 1 6)
-inner_end = refl
+-- what was set before it was saved lasts, and a new name
+lasting_inside : lasting inside (open_group table) ≡ SetMeaning 0 6 ∷ NumberOf (codes "c") 1 ∷ []
+lasting_inside = refl
 
-outer_end : close_group (closed_times 3 inner_group) ≡ (closed.Boundary, table)
-outer_end = refl
+after_all : ended (after inside (open_group table)) ≡ record { names = (codes "a", 6) ∷ (codes "b", 2) ∷ (codes "c", 1) ∷ []; internals = pos 10 ∷ []; saved = [] }
+after_all = refl

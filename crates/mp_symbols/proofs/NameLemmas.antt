@@ -1,5 +1,5 @@
 -- The names that contracts see, and the entries that are stored.
-use Rattle.std.proofs.Common.{◌≡◌, ℕ, zero, suc, ◌+◌, ◌<◌, ◌≤◌, Bool, true, false, not, cond, nat_lt, List, [], ◌∷◌, ◌++◌, length, map, get_or, position, slice_get, Option, Some, None, is_some, refl, sym, ap, ◌∙◌, inl, inr, arith, length-append}
+use Rattle.std.proofs.Common.{◌≡◌, ℕ, zero, suc, ◌+◌, ◌<◌, ◌≤◌, Bool, true, false, not, cond, nat_lt, List, [], ◌∷◌, ◌++◌, length, map, get_or, position, slice_get, Option, Some, None, is_some, IsSome, subst, refl, sym, ap, ◌∙◌, inl, inr, arith, length-append}
 use Rattle.std.specs.List.{position_or_len, IsDistinct}
 use Rattle.std.specs.Map.{keys_of, values_of}
 use Rattle.std.specs.Option.{option_map}
@@ -57,6 +57,10 @@ module _ {K M : Type 0} (bytes : K → List ℕ) where
   number_in-names_of name entries =
       position_is _ (names_of entries) _ _ (place-names_of name entries)
       (length-map entries (λ e. (bytes e.0, e.1)) ∙ sym (length-map entries (λ e. e.0)))
+
+  -- a name that has no index is not there
+  pub number_in-not : (name : List ℕ) (entries : List (K × M)) → None ≡ position (λ k. bytes_eq name (bytes k)) (keys_of entries) → IsSome (number_in (names_of entries) name) → ⊥
+  number_in-not name entries none there = let e : false ≡ true = subst IsSome (number_in-names_of name entries ∙ sym none) there in cc
 
   -- the meaning at an index
   pub meaning_in-names_of : (entries : List (K × M)) (i : ℕ) (v : M) → slice_get (values_of entries) i ≡ Some v → meaning_in (names_of entries) i ≡ Some v
@@ -136,13 +140,13 @@ module _ {M : Type 0} (names : Names M) (name other : List ℕ) (fresh : M) wher
       by None e = ap (λ t. number_in t name) (with_name-new names other fresh e) ∙ pushed
       by (Some i) e = ap (λ t. number_in t name) (with_name-present names other fresh i e) ∙ at
 
--- a table with a name has a number for it
-pub with_name-has : {M : Type 0} (names : Names M) (name : List ℕ) (fresh : M) → (k : ℕ) × (number_in (with_name names name fresh) name ≡ Some k)
-with_name-has {M} names name fresh = by (number_in names name) refl
+-- a table that was given a name has a number for it
+pub with_name-given : {M : Type 0} (names : Names M) (name : List ℕ) (fresh : M) → IsSome (number_in (with_name names name fresh) name)
+with_name-given {M} names name fresh = by (number_in names name) refl
   where
-    by : (o : Option ℕ) → number_in names name ≡ o → (k : ℕ) × (number_in (with_name names name fresh) name ≡ Some k)
-    by None e = (length names, ap (λ t. number_in t name) (with_name-new names name fresh e) ∙ number_in-new names name fresh e)
-    by (Some i) e = (i, ap (λ t. number_in t name) (with_name-present names name fresh i e) ∙ e)
+    by : (o : Option ℕ) → number_in names name ≡ o → IsSome (number_in (with_name names name fresh) name)
+    by None e = ap is_some (ap (λ t. number_in t name) (with_name-new names name fresh e) ∙ number_in-new names name fresh e)
+    by (Some i) e = ap is_some (ap (λ t. number_in t name) (with_name-present names name fresh i e) ∙ e)
 
 -- what the table is after a new entry
 pub record Adds {K M : Type 0} (bytes : K → List ℕ) (entries new : List (K × M)) (name : List ℕ) (fresh : M) : Type 0 where

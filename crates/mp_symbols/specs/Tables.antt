@@ -20,8 +20,8 @@ module _ {M : Type 0} where
 
   -- in a table of so many names and internals: each thing to undo is of a symbol or an internal that there is, and
   -- stands in a group
-  abbrev pub is_kept : ℕ → ℕ → List (Saved M) → Bool
-  is_kept names internals [] = true
-  is_kept names internals (Boundary ∷ older) = is_kept names internals older
-  is_kept names internals (Meaning symbol old ∷ older) = nat_lt symbol names && (is_open older && is_kept names internals older)
-  is_kept names internals (Number k old ∷ older) = nat_lt k internals && (is_open older && is_kept names internals older)
+  abbrev pub is_sound : ℕ → ℕ → List (Saved M) → Bool
+  is_sound names internals [] = true
+  is_sound names internals (Boundary ∷ older) = is_sound names internals older
+  is_sound names internals (Meaning symbol old ∷ older) = nat_lt symbol names && (is_open older && is_sound names internals older)
+  is_sound names internals (Number k old ∷ older) = nat_lt k internals && (is_open older && is_sound names internals older)

@@ -1,3 +1,5 @@
+//! What the end of a group undoes.
+
 /// What was undone of a group.
 #[derive(Debug, Drop)]
 pub enum Closed<M> {

@@ -1,3 +1,5 @@
+//! What a group saves.
+
 /// What is to be undone at the end of a group. Contracts see a list of these; no call takes or answers one.
 #[derive(Debug, Drop)]
 pub enum Saved<M> {

@@ -1,6 +1,6 @@
 //! The table of names.
 
-ghost use Rattle.std.specs.Prelude.{◌≡◌, ◌↔◌, ◌<◌, [], ◌∷◌, ◌++◌, length, Some, slice_get, true, false, IsTrue, IfOk, OnOk, OnErr};
+ghost use Rattle.std.specs.Prelude.{◌≡◌, ◌↔◌, ◌<◌, [], ◌∷◌, ◌++◌, length, Some, slice_get, true, false, IsTrue, IsOk, IsSome, IfOk, OnOk, OnErr};
 ghost use Rattle.mp_symbols.specs.Names.{number_in, name_in, meaning_in, with_name};
 ghost use Rattle.mp_symbols.specs.Groups.{with_symbol, with_internal, open_group, save, save_internal, close_group, starts_group, IsKnown};
 ghost use Rattle.mp_symbols.specs.Tables.{is_open};
@@ -26,7 +26,7 @@ impl<M> Model for Symbols<M> {
     ghost use Rattle.std.specs.Prelude.{List, ℕ, ◌≡◌, ◌≤◌, ◌^◌, true, length, map, reverse};
     ghost use Rattle.std.specs.Str.{bytes_eq};
     ghost use Rattle.indexmap.specs.IndexMap.{IsUnique, index_map_len};
-    ghost use Rattle.mp_symbols.specs.Tables.{Table, is_kept};
+    ghost use Rattle.mp_symbols.specs.Tables.{Table, is_sound};
     ghost use Rattle.mp_symbols.specs.Coding.{table_code};
 
     ghost Value = { Table M };
@@ -35,7 +35,7 @@ impl<M> Model for Symbols<M> {
 
     ghost view = { λ s. record { names = map (λ e. (e.0.items, e.1)) s.entries.entries; internals = s.internals.items; saved = reverse s.saved.items } };
 
-    ghost invariant = { λ s. IsUnique (λ a b. bytes_eq a.items b.items) s.entries × (index_map_len s.entries ≤ 2 ^ 32) × (is_kept (index_map_len s.entries) (length s.internals.items) (reverse s.saved.items) ≡ true) };
+    ghost invariant = { λ s. IsUnique (λ a b. bytes_eq a.items b.items) s.entries × (index_map_len s.entries ≤ 2 ^ 32) × (is_sound (index_map_len s.entries) (length s.internals.items) (reverse s.saved.items) ≡ true) };
 }
 
 impl<M> Symbols<M> {
@@ -84,7 +84,7 @@ impl<M> Symbols<M> {
         &self.entries[symbol as usize]
     }
 
-    /// Gives the name with that number another meaning, and answers the old one. No group keeps it.
+    /// Gives the name with that number another meaning, and answers the old one. No group saves it.
     pub fn set_meaning(&mut self, symbol: u32, new: M) -> M
         requires { symbol < length self.old.names }
         ensures old { meaning_in self.old.names symbol ≡ Some result }
@@ -101,7 +101,7 @@ impl<M> Symbols<M> {
         self.internals[k as usize]
     }
 
-    /// Gives the internal with that number another value. No group keeps the old one.
+    /// Gives the internal with that number another value. No group saves the old one.
     pub fn set_internal(&mut self, k: u32, value: i32)
         requires { k < length self.old.internals }
         ensures { self.new ≡ with_internal self.old k value }
@@ -109,7 +109,7 @@ impl<M> Symbols<M> {
         self.internals[k as usize] = value;
     }
 
-    /// Undoes the newest change that was kept for a group, and says which it was. Where nothing is left to undo in
+    /// Undoes the newest thing that a group saved, and says which it was. Where nothing is left to undo in
     /// the group, the group ends.
     pub fn close_group(&mut self) -> Closed<M>
         ensures exact { (result, self.new) ≡ close_group self.old }
@@ -143,14 +143,15 @@ fn number_at(index: usize) -> Result<u32, NoMemory>
 }
 
 impl<M: Drop> Symbols<M> {
-    /// The number of a name. A name that is there keeps its number and its meaning. A new one gets the next
-    /// number, with `fresh` as its meaning.
+    /// The number of a name. A name that is there keeps its number and its meaning, and wants no memory. A new one
+    /// gets the next number, with `fresh` as its meaning.
     ///
     /// Want of memory is also answered where all numbers are used up; the table is then as it was.
     pub fn number_of(&mut self, name: &[u8], fresh: M) -> Result<u32, NoMemory>
         ensures number { IfOk result (λ symbol. number_in self.new.names name.now ≡ Some symbol) }
         ensures within { IfOk result (λ symbol. symbol < length self.new.names) }
         ensures table { OnOk result (self.new ≡ record self.old { names = with_name self.old.names name.now fresh }) }
+        ensures present { IsSome (number_in self.old.names name.now) → IsOk result }
         ensures err { OnErr result (self.new ≡ self.old) }
     {
         if let Some(index) = self.entries.get_index_of(name) {
@@ -185,12 +186,13 @@ impl<M: Drop> Symbols<M> {
     }
 
     /// Gives the name with that number a fresh meaning, and its old one back when the group ends. Outside a group
-    /// the old one is given up.
+    /// the old one is given up, and that wants no memory.
     ///
     /// Want of memory leaves the table as it was.
     pub fn save(&mut self, symbol: u32, fresh: M) -> Result<(), NoMemory>
         requires { symbol < length self.old.names }
         ensures ok { OnOk result (self.new ≡ save self.old symbol fresh) }
+        ensures outside { (is_open self.old.saved ≡ false) → IsOk result }
         ensures err { OnErr result (self.new ≡ self.old) }
     {
         if self.saved.is_empty() {
@@ -204,12 +206,13 @@ impl<M: Drop> Symbols<M> {
     }
 
     /// Gives the internal with that number its present value back when the group ends. Outside a group it does
-    /// nothing.
+    /// nothing, and wants no memory.
     ///
     /// Want of memory leaves the table as it was.
     pub fn save_internal(&mut self, k: u32) -> Result<(), NoMemory>
         requires { k < length self.old.internals }
         ensures ok { OnOk result (self.new ≡ save_internal self.old k) }
+        ensures outside { (is_open self.old.saved ≡ false) → IsOk result }
         ensures err { OnErr result (self.new ≡ self.old) }
     {
         let value = self.internal(k);

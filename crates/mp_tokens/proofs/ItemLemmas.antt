@@ -1,5 +1,5 @@
 -- Items that were read, one after another.
-use Rattle.std.proofs.Common.{◌≡◌, ℕ, ◌+◌, ◌≤◌, List, [], ◌∷◌, ◌++◌, length, Some, refl, sym, ap, ◌∙◌, ◌<◌, subst, All, unwrap_or, arith, append_assoc, length-append, ◌&&◌, ◌==◌, if◌then◌else◌}
+use Rattle.std.proofs.Common.{◌≡◌, ℕ, ◌+◌, ◌≤◌, List, [], ◌∷◌, ◌++◌, length, Option, Some, None, IsSome, true, false, refl, sym, ap, ◌∙◌, ◌<◌, subst, All, unwrap_or, arith, append_assoc, length-append, ◌&&◌, ◌==◌, if◌then◌else◌}
 use Rattle.std.specs.List.{AllByRecursion}
 use Rattle.std.specs.Str.{bytes_eq}
 use Rattle.std.proofs.lemmas.Bool.{cond_both}
@@ -8,7 +8,7 @@ use Rattle.std.proofs.lemmas.List.Elements.{All-from_recursion}
 use Rattle.std.proofs.lemmas.List.{append-nil, length-map}
 use Rattle.mp_symbols.specs.Names.{Names, number_in, with_name}
 use Rattle.mp_symbols.specs.Tables.{Table}
-use Rattle.mp_symbols.proofs.NameLemmas.{number_in-with_name, with_name-has}
+use Rattle.mp_symbols.specs.Calls.{Changes, NumberOf, Call, IsForGood}
 use Rattle.mp_tokens.proofs.LexemeLemmas.{length-line_items}
 use Rattle.mp_tokens.specs.Lines.{lines, is_line_end, begins_with, before_lines}
 use Rattle.mp_tokens.specs.Reading.{Took}
@@ -17,6 +17,45 @@ use Rattle.mp_tokens.specs.declared.token.Token.{Token}
 use Rattle.mp_tokens.specs.declared.token.Token.TheVariants as token
 
 module _ {M : Type 0} where
+  pub with_items-append : (first : M) (names : Names M) (xs ys : List Item) → with_items first names (xs ++ ys) ≡ with_items first (with_items first names xs) ys
+  with_items-append first names [] ys = refl
+  with_items-append first names (x ∷ xs) ys = with_items-append first (with_item first names x) xs ys
+
+  with_names_of-append : (first : M) (table : Table M) (xs ys : List Item) → with_names_of first table (xs ++ ys) ≡ with_names_of first (with_names_of first table xs) ys
+  with_names_of-append first table xs ys = ap (λ names. record table { names = names }) (with_items-append first table.names xs ys)
+
+  -- how far reading has come: what is left of the items
+  pub record Reading (first : M) (old new : Table M) (before after : List Token) (items left : List Item) : Type 0 where
+    pub done : List Item
+    pub split : items ≡ done ++ left
+    pub took : Took first old new before after done
+
+  pub Reading-start : (first : M) (names : Table M) (tokens : List Token) (items : List Item) → Reading first names names tokens tokens items items
+  Reading-start first names tokens items =
+      record { done = []; split = refl; took = record { names = refl; tokens = sym (append-nil tokens) } }
+
+some_number : (o : Option ℕ) → IsSome o → (k : ℕ) × (o ≡ Some k)
+some_number None h = absurd (none_is_not h)
+  where
+    none_is_not : false ≡ true → ⊥
+    none_is_not e = cc
+some_number (Some k) h = (k, refl)
+
+-- what the law of numbers says of the table of names (mp_symbols, numbers_are_for_good)
+module _ {M : Type 0} (given : (table : Table M) (name : List ℕ) (fresh : M) → IsSome (number_in (with_name table.names name fresh) name)) (for_good : (table : Table M) (calls : List (Call M)) → IsForGood table calls) where
+  table_of : Names M → Table M
+  table_of names = record { names = names; internals = []; saved = [] }
+
+  -- one more name leaves the numbers of the others
+  number_in-with_name : (names : Names M) (name other : List ℕ) (fresh : M) (k : ℕ) → number_in names name ≡ Some k → number_in (with_name names other fresh) name ≡ Some k
+  unfolding table_of
+  number_in-with_name names name other fresh k at = for_good (table_of names) (Changes (NumberOf other fresh) ∷ []) name k at
+
+  -- a table that was given a name has a number for it
+  with_name-has : (names : Names M) (name : List ℕ) (fresh : M) → (k : ℕ) × (number_in (with_name names name fresh) name ≡ Some k)
+  unfolding table_of
+  with_name-has names name fresh = some_number _ (given (table_of names) name fresh)
+
   -- a table keeps the number of a name
   number_in-with_items : (first : M) (names : Names M) (name : List ℕ) (k : ℕ) (items : List Item) → number_in names name ≡ Some k → number_in (with_items first names items) name ≡ Some k
   number_in-with_items first names name k [] at = at
@@ -42,23 +81,6 @@ module _ {M : Type 0} where
       let head = token_in-with_items first names x (xs ++ ys) ∙ sym (token_in-with_items first names x xs) in
       let tail = tokens_in-append first (with_item first names x) xs ys in
       (λ j. head j ∷ tail j)
-
-  pub with_items-append : (first : M) (names : Names M) (xs ys : List Item) → with_items first names (xs ++ ys) ≡ with_items first (with_items first names xs) ys
-  with_items-append first names [] ys = refl
-  with_items-append first names (x ∷ xs) ys = with_items-append first (with_item first names x) xs ys
-
-  with_names_of-append : (first : M) (table : Table M) (xs ys : List Item) → with_names_of first table (xs ++ ys) ≡ with_names_of first (with_names_of first table xs) ys
-  with_names_of-append first table xs ys = ap (λ names. record table { names = names }) (with_items-append first table.names xs ys)
-
-  -- how far reading has come: what is left of the items
-  pub record Reading (first : M) (old new : Table M) (before after : List Token) (items left : List Item) : Type 0 where
-    pub done : List Item
-    pub split : items ≡ done ++ left
-    pub took : Took first old new before after done
-
-  pub Reading-start : (first : M) (names : Table M) (tokens : List Token) (items : List Item) → Reading first names names tokens tokens items items
-  Reading-start first names tokens items =
-      record { done = []; split = refl; took = record { names = refl; tokens = sym (append-nil tokens) } }
 
   pub Reading-more : (first : M) (old mid new : Table M) (before between after : List Token) (items ahead xs left : List Item)
       → Reading first old mid before between items ahead → ahead ≡ xs ++ left → Took first mid new between after xs → Reading first old new before after items left
@@ -99,6 +121,7 @@ module _ {M : Type 0} where
       subst (λ l. All (IsNumbered new.names) l) (sym f)
       (subst (λ t. All (IsNumbered t.names) (tokens_in t.names items)) (sym e) (All-from_recursion _ _ (numbered first old.names items)))
 
+module _ {M : Type 0} where
   -- a part of what is left, and what was done before
   pub GainsSome-more : (first : M) (old mid new : Table M) (before between : List Token) (items ahead xs left : List Item)
       → Reading first old mid before between items ahead → ahead ≡ xs ++ left → GainsSome first mid new xs → GainsSome first old new items

@@ -7,7 +7,7 @@ use Rattle.std.proofs.lemmas.List.Quantifiers.{position-Some}
 use Rattle.std.proofs.lemmas.List.Sums.{prefix_len-le-length}
 use Rattle.std.proofs.Math.Seq.{take-add}
 use Rattle.mp_tokens.specs.Classes.{has, classes, class_of}
-use Rattle.mp_tokens.specs.Lexemes.{Lexeme, run, begins, extent, fraction_length, quoted_by, string_by, is_kept, lexeme, lexeme_by, lexemes, lexemes_after}
+use Rattle.mp_tokens.specs.Lexemes.{Lexeme, run, begins, extent, fraction_length, quoted_by, string_by, is_string_byte, lexeme, lexeme_by, lexemes, lexemes_after}
 use Rattle.mp_tokens.specs.Items.{items_by, line_items}
 use Rattle.mp_tokens.specs.Reading.{Fits, IsFirst}
 use Rattle.mp_tokens.specs.declared.class.Class.{Class}
@@ -92,7 +92,7 @@ Fits-lexeme_by StringMark c cs e = by (position (has StringMark) cs) refl
     by None h = tt
     by (Some n) h =
         let inside = position-Some (has StringMark) cs n 0 h in
-        Fits-string_by (find (λ x. not (is_kept x)) (take n cs)) (take (n + 2) (c ∷ cs)) (omega (arith, inside.0, length-take-le (n + 2) (c ∷ cs) (omega (arith, inside.0))))
+        Fits-string_by (find (λ x. not (is_string_byte x)) (take n cs)) (take (n + 2) (c ∷ cs)) (omega (arith, inside.0, length-take-le (n + 2) (c ∷ cs) (omega (arith, inside.0))))
 Fits-lexeme_by Loner c cs e = tt
 Fits-lexeme_by Comment c cs e = tt
 Fits-lexeme_by Space c cs e = tt

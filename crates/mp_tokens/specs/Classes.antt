@@ -3,6 +3,8 @@
 use Rattle.std.specs.Prelude.{ℕ, Bool, false, ◌||◌, List, [], ◌∷◌, ◌==◌, codes, find, unwrap_or}
 use Rattle.std.specs.List.{list_any}
 use Rattle.std.specs.Char.{is_ascii_alphabetic, is_ascii_digit}
+use Rattle.mp_scaled.specs.declared.decimal.TheConstants.{POINT}
+use Rattle.mp_tokens.specs.declared.class.TheConstants.{STRING_MARK, COMMENT_MARK, LEFT_BRACKET, RIGHT_BRACKET, TAB, FORM_FEED}
 use Rattle.mp_tokens.specs.declared.class.Class.{Class}
 use Rattle.mp_tokens.specs.declared.class.Class.TheVariants.{Letters, Relations, Quotes, Signs, Products, Marks, Signals, Arrows, Braces, LeftBrackets, RightBrackets, Loner, Digit, Point, StringMark, Comment, Space, Other}
 
@@ -20,14 +22,14 @@ has Marks c = is_among (codes "!?") c
 has Signals c = is_among (codes "#&@$") c
 has Arrows c = is_among (codes "^~") c
 has Braces c = is_among (codes "{}") c
-has LeftBrackets c = c == 91
-has RightBrackets c = c == 93
+has LeftBrackets c = c == LEFT_BRACKET
+has RightBrackets c = c == RIGHT_BRACKET
 has Loner c = is_among (codes ",;()") c
 has Digit c = is_ascii_digit c
-has Point c = c == 46
-has StringMark c = c == 34
-has Comment c = c == 37
-has Space c = is_among (32 ∷ 9 ∷ 12 ∷ []) c
+has Point c = c == POINT
+has StringMark c = c == STRING_MARK
+has Comment c = c == COMMENT_MARK
+has Space c = is_among (32 ∷ TAB ∷ FORM_FEED ∷ []) c
 has Other c = false
 
 abbrev pub classes : List Class

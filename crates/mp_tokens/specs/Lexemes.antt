@@ -4,6 +4,7 @@ use Rattle.std.specs.Prelude.{ℕ, zero, suc, ◌+◌, ◌-◌, Bool, false, not
 use Rattle.std.specs.List.{prefix_len}
 use Rattle.std.specs.Int.{is_in_range}
 use Rattle.mp_tokens.specs.Classes.{has, class_of, is_among}
+use Rattle.mp_tokens.specs.declared.class.TheConstants.{TAB, FORM_FEED}
 use Rattle.mp_tokens.specs.declared.class.Class.{Class}
 use Rattle.mp_tokens.specs.declared.class.Class.TheVariants.{Loner, Digit, Point, StringMark, Comment, Space, Other}
 use Rattle.mp_tokens.specs.declared.token.BadToken.TheVariants.{Character, Unfinished}
@@ -40,8 +41,8 @@ pointed rest =
     else extent Blank 1
 
 -- the bytes that may stand in a string
-abbrev pub is_kept : ℕ → Bool
-is_kept c = is_in_range 32 126 c || is_among (9 ∷ 12 ∷ []) c || nat_le 128 c
+abbrev pub is_string_byte : ℕ → Bool
+is_string_byte c = is_in_range 32 126 c || is_among (TAB ∷ FORM_FEED ∷ []) c || nat_le 128 c
 
 abbrev pub string_by : Option ℕ → Kind
 string_by None = Text
@@ -49,7 +50,7 @@ string_by (Some c) = Bad (Character c)
 
 -- what the bytes between two marks make, by the first that may not stand there
 abbrev pub string_kind : List ℕ → Kind
-string_kind content = string_by (find (λ c. not (is_kept c)) content)
+string_kind content = string_by (find (λ c. not (is_string_byte c)) content)
 
 abbrev pub quoted_by : List ℕ → Option ℕ → Extent
 quoted_by rest (Some n) = extent (string_kind (take n rest)) (n + 2)

@@ -3,6 +3,24 @@
 ghost use Rattle.std.specs.Prelude.{◌≡◌};
 ghost use Rattle.mp_tokens.specs.Classes.{class_of, has};
 
+use mp_scaled::POINT;
+
+/// A string stands between two of these.
+pub(crate) const STRING_MARK: u8 = b'"';
+
+/// Begins a comment.
+pub(crate) const COMMENT_MARK: u8 = b'%';
+
+pub(crate) const LEFT_BRACKET: u8 = b'[';
+
+pub(crate) const RIGHT_BRACKET: u8 = b']';
+
+/// A space, like the blank.
+pub(crate) const TAB: u8 = b'\t';
+
+/// A space, like the blank.
+pub(crate) const FORM_FEED: u8 = 12;
+
 /// The class of a byte (Knuth, METAFONT: The Program, part 12).
 #[derive(Clone, Copy, Debug)]
 pub(crate) enum Class {
@@ -41,14 +59,14 @@ impl Class {
             b'#' | b'&' | b'@' | b'$' => Class::Signals,
             b'^' | b'~' => Class::Arrows,
             b'{' | b'}' => Class::Braces,
-            b'[' => Class::LeftBrackets,
-            b']' => Class::RightBrackets,
+            LEFT_BRACKET => Class::LeftBrackets,
+            RIGHT_BRACKET => Class::RightBrackets,
             b',' | b';' | b'(' | b')' => Class::Loner,
             b'0'..=b'9' => Class::Digit,
-            b'.' => Class::Point,
-            b'"' => Class::StringMark,
-            b'%' => Class::Comment,
-            b' ' | b'\t' | 12 => Class::Space,
+            POINT => Class::Point,
+            STRING_MARK => Class::StringMark,
+            COMMENT_MARK => Class::Comment,
+            b' ' | TAB | FORM_FEED => Class::Space,
             _ => Class::Other,
         }
     }
@@ -67,14 +85,14 @@ impl Class {
             Class::Signals => matches!(c, b'#' | b'&' | b'@' | b'$'),
             Class::Arrows => matches!(c, b'^' | b'~'),
             Class::Braces => matches!(c, b'{' | b'}'),
-            Class::LeftBrackets => c == b'[',
-            Class::RightBrackets => c == b']',
+            Class::LeftBrackets => c == LEFT_BRACKET,
+            Class::RightBrackets => c == RIGHT_BRACKET,
             Class::Loner => matches!(c, b',' | b';' | b'(' | b')'),
             Class::Digit => matches!(c, b'0'..=b'9'),
-            Class::Point => c == b'.',
-            Class::StringMark => c == b'"',
-            Class::Comment => c == b'%',
-            Class::Space => matches!(c, b' ' | b'\t' | 12),
+            Class::Point => c == POINT,
+            Class::StringMark => c == STRING_MARK,
+            Class::Comment => c == COMMENT_MARK,
+            Class::Space => matches!(c, b' ' | TAB | FORM_FEED),
             Class::Other => false,
         }
     }

@@ -1,6 +1,6 @@
 //! The tokens of a file and of a string.
 
-ghost use Rattle.std.specs.Prelude.{◌≡◌, ◌+◌, ◌≤◌, length, All, IfOk, OnOk, OnErr};
+ghost use Rattle.std.specs.Prelude.{◌≡◌, ◌↔◌, ◌+◌, ◌-◌, ◌^◌, ◌≤◌, length, All, IsErr, IfOk, OnOk, OnErr};
 ghost use Rattle.mp_tokens.specs.Items.{file_items, string_items, line_items, items_by, inner, tokens_in, with_names_of, IsNumbered, GainsSome};
 ghost use Rattle.mp_tokens.specs.Reading.{Took, Fits};
 
@@ -9,7 +9,7 @@ use crate::lexeme::{Kind, first_lexeme};
 use crate::lines::split_line;
 use crate::token::{BadToken, Token, Tokens};
 use mp_scaled::{Listing, NoMemory, SharedSlice, read_decimal};
-use mp_symbols::Symbols;
+use mp_symbols::{Symbols, numbers_are_for_good};
 use std::alloc::Global;
 
 /// The tokens of a file: those of each line, and behind them its `LineEnd`.
@@ -28,6 +28,7 @@ pub fn items_of_file<M: FreshMeaning + Drop>(
     ensures length { IfOk result (λ tokens. length tokens ≤ length bytes.now + 1) }
     ensures err { OnErr result (GainsSome M.first names.old names.new (file_items bytes.now)) }
 {
+    numbers_are_for_good::<M>();
     let mut tokens = Listing::new(alloc);
     let mut rest = bytes;
     let mut number = 0;
@@ -55,13 +56,15 @@ pub fn items_of_string<M: FreshMeaning + Drop>(
     ensures length { IfOk result (λ tokens. length tokens ≤ length bytes.now) }
     ensures err { OnErr result (GainsSome M.first names.old names.new (string_items bytes.now)) }
 {
+    numbers_are_for_good::<M>();
     let mut tokens = Listing::new(alloc);
     add_line(alloc, bytes, names, &mut tokens)?;
     Ok(tokens)
 }
 
 fn next_number(number: u32) -> Result<u32, NoMemory>
-    ensures { IfOk result (λ next. next ≡ number + 1) }
+    ensures next { IfOk result (λ next. next ≡ number + 1) }
+    ensures last { IsErr result ↔ (number ≡ 2 ^ 32 - 1) }
 {
     match number.checked_add(1) {
         Some(next) => Ok(next),
@@ -79,6 +82,7 @@ fn add_line<M: FreshMeaning + Drop>(
     ensures ok { OnOk result (Took M.first names.old names.new tokens.old tokens.new (line_items line.now)) }
     ensures err { OnErr result (GainsSome M.first names.old names.new (line_items line.now)) }
 {
+    numbers_are_for_good::<M>();
     let mut rest = line;
     'lexemes: while let Some(first) = first_lexeme(rest) {
         let (text, after) = rest.split_at(first.length);

@@ -3,10 +3,11 @@
 ghost use Rattle.std.specs.Prelude.{◌≡◌, ◌↔◌, ◌≤◌, ◌<◌, [], length, position, IsNone, IfSome};
 ghost use Rattle.mp_tokens.specs.Classes.{has};
 ghost use Rattle.mp_tokens.specs.Reading.{IsFirst};
-ghost use Rattle.mp_tokens.specs.Lexemes.{extent, run, begins, fraction_length, lexeme, number, pointed, quoted, string_kind, is_kept};
+ghost use Rattle.mp_tokens.specs.Lexemes.{extent, run, begins, fraction_length, lexeme, number, pointed, quoted, string_kind, is_string_byte};
 
-use crate::class::Class;
+use crate::class::{Class, FORM_FEED, STRING_MARK, TAB};
 use crate::token::BadToken;
+use mp_scaled::POINT;
 
 /// What bytes make.
 #[derive(Clone, Copy, Debug)]
@@ -91,7 +92,7 @@ fn fraction_length(text: &[u8]) -> usize
     ensures within { result ≤ length text.now }
 {
     match text {
-        [b'.', rest @ ..] if begins(Class::Digit, rest) => 1 + run(Class::Digit, rest),
+        [POINT, rest @ ..] if begins(Class::Digit, rest) => 1 + run(Class::Digit, rest),
         _ => 0,
     }
 }
@@ -132,7 +133,7 @@ fn mark_index(text: &[u8]) -> Option<usize>
     ensures index { result ≡ position (has Class.StringMark) text.now }
     ensures within { IfSome result (λ index. index < length text.now) }
 {
-    text.iter().position(|&c| c == b'"')
+    text.iter().position(|&c| c == STRING_MARK)
 }
 
 // What the bytes between two marks make.
@@ -140,7 +141,7 @@ fn string_kind(content: &[u8]) -> Kind
     ensures { result ≡ string_kind content.now }
 {
     for c in content {
-        if !is_kept(*c) {
+        if !is_string_byte(*c) {
             return Kind::Bad(BadToken::Character(*c));
         }
     }
@@ -148,8 +149,8 @@ fn string_kind(content: &[u8]) -> Kind
 }
 
 // Whether a byte may stand in a string.
-fn is_kept(c: u8) -> bool
-    ensures { result ≡ is_kept c }
+fn is_string_byte(c: u8) -> bool
+    ensures { result ≡ is_string_byte c }
 {
-    matches!(c, 32..=126 | b'\t' | 12 | 128..=255)
+    matches!(c, 32..=126 | TAB | FORM_FEED | 128..=255)
 }

@@ -4,6 +4,12 @@ ghost use Rattle.std.specs.Prelude.{◌≡◌, ◌≢◌, ◌<◌, ◌≤◌, []
 ghost use Rattle.std.specs.List.{position_or_len};
 ghost use Rattle.mp_tokens.specs.Lines.{lines, is_line_end, end_length};
 
+/// Ends a line, alone or behind a carriage return.
+pub(crate) const LINE_FEED: u8 = b'\n';
+
+/// Ends a line.
+pub(crate) const CARRIAGE_RETURN: u8 = b'\r';
+
 /// The first line, and the bytes behind its end.
 pub(crate) fn split_line(text: &[u8]) -> (&[u8], &[u8])
     requires { text.now ≢ [] }
@@ -20,7 +26,7 @@ fn line_length(text: &[u8]) -> usize
     ensures within { result ≤ length text.now }
 {
     for (i, c) in text.iter().enumerate() {
-        if *c == b'\n' || *c == b'\r' {
+        if *c == LINE_FEED || *c == CARRIAGE_RETURN {
             return i;
         }
     }
@@ -34,7 +40,7 @@ fn end_length(text: &[u8]) -> usize
 {
     match text {
         [] => 0,
-        [b'\r', b'\n', ..] => 2,
+        [CARRIAGE_RETURN, LINE_FEED, ..] => 2,
         _ => 1,
     }
 }

@@ -35,9 +35,6 @@ pub root_positive : (n y : ℕ) → 0 < n → n < (y + 1) * (y + 1) → 0 < y
 root_positive n zero p q = absurd (omega arith)
 root_positive n (suc y) p q = omega arith
 
-pub quotient_above : (n x : ℕ) → 0 < x → x ≤ n / x → x * x ≤ n
-quotient_above n x p q = omega (arith, mul-le x x (n / x) x q (omega arith))
-
 -- the power of 2 with half as many digits is above the root
 pub power_above : (n m : ℕ) → n < 2 ^ m → n < (2 ^ ((m + 1) / 2) + 1) * (2 ^ ((m + 1) / 2) + 1)
 power_above n m p =

@@ -4,7 +4,7 @@ use Rattle.std.proofs.Math.Nat.{div-le_self, div-mul-le_self}
 use Rattle.std.proofs.lemmas.Nat.{le-div, pow_pos}
 use Rattle.std.proofs.lemmas.Bool.{ltb-true, leb-true, le-leb, and_parts}
 use Rattle.std.proofs.lemmas.Int.{ints}
-use Rattle.mp_trig.specs.Sines.{angle_entry, Turned, sine_turn, sine_after, reach, IsWithinReach}
+use Rattle.mp_trig.specs.Sines.{angle_entry, Turned, sine_turn, sine_after, bound_after, IsBoundedAfter}
 use Rattle.mp_trig.proofs.Tables.{below, by_test}
 
 abbrev angle_test : ℕ → Bool
@@ -25,22 +25,22 @@ angle_entry_bounds k p q =
     rw e at (angle_bounds_next (k - 1) (omega arith))
 
 reach_test : ℕ → Bool
-reach_test n = nat_le (reach n) 715827882
+reach_test n = nat_le (bound_after n) 715827882
 
 reaches_pass : below reach_test 27 ≡ true
-unfolding reach reach_test
+unfolding bound_after reach_test
 reaches_pass = refl
 
-pub reach_small : (n : ℕ) → n ≤ 26 → reach n ≤ 715827882
+pub reach_small : (n : ℕ) → n ≤ 26 → bound_after n ≤ 715827882
 unfolding reach_test
 reach_small n p = leb-true _ _ (by_test reach_test 27 reaches_pass n (omega arith))
 
-pub reach-next : (n : ℕ) → reach (n + 1) ≡ reach n + reach n / 2 ^ (n + 1)
-unfolding reach
-reach-next n = ap reach (add-one n)
+pub bound_after-next : (n : ℕ) → bound_after (n + 1) ≡ bound_after n + bound_after n / 2 ^ (n + 1)
+unfolding bound_after
+bound_after-next n = ap bound_after (add-one n)
 
-pub reach_none : reach 0 ≡ 268435456
-unfolding reach
+pub reach_none : bound_after 0 ≡ 268435456
+unfolding bound_after
 reach_none = refl
 
 pub sine_after-next : (n : ℕ) (s : Turned) → sine_after (n + 1) s ≡ sine_turn n (sine_after n s)
@@ -57,7 +57,7 @@ div_le a b p q h = le-div (a / p) b p q (omega (arith, div-mul-le_self a p))
 pub div_quarter : (a b p : ℕ) → 0 < p → 4 * a ≤ b → 4 * (a / p) ≤ b / p
 div_quarter a b p q h = le-div (4 * (a / p)) b p q (omega (arith, div-mul-le_self a p))
 
--- bounds after a turn, over plain numbers: p is the divisor, r the reach
+-- bounds after a turn, over plain numbers: p is the divisor, r the bound_after
 pub record Kept (r q : ℕ) (x y : ℤ) : Type 0 where
   pub near_x : unsigned_abs x ≤ r + q
   pub near_y : unsigned_abs y ≤ r + q
@@ -79,10 +79,10 @@ kept r p (pos a) (negsuc b) q small nx ny lx ly = record {
 }
 kept r p (negsuc a) y q small nx ny lx ly = absurd (omega (arith, ints))
 
-within_next : (n : ℕ) (x y : ℤ) → n < 26 → IsWithinReach n x y → IsWithinReach (n + 1) (x +ℤ int_div y (pos (2 ^ (n + 1)))) (y -ℤ int_div x (pos (2 ^ (n + 1))))
+within_next : (n : ℕ) (x y : ℤ) → n < 26 → IsBoundedAfter n x y → IsBoundedAfter (n + 1) (x +ℤ int_div y (pos (2 ^ (n + 1)))) (y -ℤ int_div x (pos (2 ^ (n + 1))))
 within_next n x y p w =
-    let e = reach-next n in
-    let k = kept (reach n) (2 ^ (n + 1)) x y (pow_pos (n + 1)) (reach_small n (omega arith)) w.near_x w.near_y w.low_x w.low_y in
+    let e = bound_after-next n in
+    let k = kept (bound_after n) (2 ^ (n + 1)) x y (pow_pos (n + 1)) (reach_small n (omega arith)) w.near_x w.near_y w.low_x w.low_y in
     record {
       near_x = rw e k.near_x;
       near_y = rw e k.near_y;
@@ -91,12 +91,12 @@ within_next n x y p w =
     }
 
 -- after a turn, as the code makes it
-pub within_turned : (n : ℕ) (x y x' y' : ℤ) → n < 26 → x' ≡ x +ℤ int_div y (pos (2 ^ (n + 1))) → y' ≡ y -ℤ int_div x (pos (2 ^ (n + 1))) → IsWithinReach n x y → IsWithinReach (n + 1) x' y'
+pub within_turned : (n : ℕ) (x y x' y' : ℤ) → n < 26 → x' ≡ x +ℤ int_div y (pos (2 ^ (n + 1))) → y' ≡ y -ℤ int_div x (pos (2 ^ (n + 1))) → IsBoundedAfter n x y → IsBoundedAfter (n + 1) x' y'
 within_turned n x y x' y' p ex ey w = rw (ex, ey) (within_next n x y p w)
 
-pub within_kept : (n : ℕ) (x y : ℤ) → IsWithinReach n x y → IsWithinReach (n + 1) x y
+pub within_kept : (n : ℕ) (x y : ℤ) → IsBoundedAfter n x y → IsBoundedAfter (n + 1) x y
 within_kept n x y w =
-    let e = reach-next n in
+    let e = bound_after-next n in
     record {
       near_x = rw e (omega (arith, w.near_x));
       near_y = rw e (omega (arith, w.near_y));
@@ -104,11 +104,11 @@ within_kept n x y w =
       low_y = rw e (omega (arith, ints, w.low_y));
     }
 
-pub within_start : IsWithinReach 0 (pos 268435456) (pos 268435456)
-unfolding reach
+pub within_start : IsBoundedAfter 0 (pos 268435456) (pos 268435456)
+unfolding bound_after
 within_start = record { near_x = omega arith; near_y = omega arith; low_x = omega (arith, ints); low_y = omega (arith, ints) }
 
-pub ruleset reaching = (reach_small, reach-next, within_start)
+pub ruleset bounding = (reach_small, bound_after-next, within_start)
 
 pub quotient_le : (d : ℤ) (p : ℕ) → unsigned_abs (int_div d (pos p)) ≤ unsigned_abs d
 quotient_le (pos m) p = div-le_self m p

@@ -37,9 +37,9 @@ sine_after zero s = s
 sine_after (suc n) s = sine_turn n (sine_after n s)
 
 -- how far a coordinate can be from 0 after so many turns
-unfoldable pub reach : ℕ → ℕ
-reach zero = 268435456
-reach (suc n) = reach n + reach n / 2 ^ (n + 1)
+unfoldable pub bound_after : ℕ → ℕ
+bound_after zero = 268435456
+bound_after (suc n) = bound_after n + bound_after n / 2 ^ (n + 1)
 
 -- the point at 45 degrees, turned by the angle
 abbrev pub turned_by : ℕ → Turned
@@ -49,37 +49,37 @@ pub record Point : Type 0 where
   pub x : ℤ
   pub y : ℤ
 
--- a point of the first eighth, from the angle between 45 degrees and it
-abbrev pub eighth_point : ℕ → Point
-eighth_point angle = let s = turned_by angle in
+-- a point of the first octant, from the angle between 45 degrees and it
+abbrev pub octant_point : ℕ → Point
+octant_point angle = let s = turned_by angle in
     record { x = s.x; y = cond (int_lt s.y (pos 0)) (pos 0) s.y }
 
--- the same point in another eighth of the turn
-abbrev pub in_eighth : ℕ → Point → Point
-in_eighth eighth p =
-    cond (nat_eq eighth 0) p
-    (cond (nat_eq eighth 1) (record { x = p.y; y = p.x })
-    (cond (nat_eq eighth 2) (record { x = neg_ℤ p.y; y = p.x })
-    (cond (nat_eq eighth 3) (record { x = neg_ℤ p.x; y = p.y })
-    (cond (nat_eq eighth 4) (record { x = neg_ℤ p.x; y = neg_ℤ p.y })
-    (cond (nat_eq eighth 5) (record { x = neg_ℤ p.y; y = neg_ℤ p.x })
-    (cond (nat_eq eighth 6) (record { x = p.y; y = neg_ℤ p.x })
+-- the same point in another octant of the turn
+abbrev pub in_octant : ℕ → Point → Point
+in_octant octant p =
+    cond (nat_eq octant 0) p
+    (cond (nat_eq octant 1) (record { x = p.y; y = p.x })
+    (cond (nat_eq octant 2) (record { x = neg_ℤ p.y; y = p.x })
+    (cond (nat_eq octant 3) (record { x = neg_ℤ p.x; y = p.y })
+    (cond (nat_eq octant 4) (record { x = neg_ℤ p.x; y = neg_ℤ p.y })
+    (cond (nat_eq octant 5) (record { x = neg_ℤ p.y; y = neg_ℤ p.x })
+    (cond (nat_eq octant 6) (record { x = p.y; y = neg_ℤ p.x })
     (record { x = p.x; y = neg_ℤ p.y })))))))
 
 -- an angle brought into one turn of 360 degrees
 abbrev pub in_one_turn : ℤ → ℕ
 in_one_turn z = unsigned_abs (int_rem_euclid z (pos 377487360))
 
--- the angle between 45 degrees and the angle that stands in the first eighth for one within a turn
+-- the angle between 45 degrees and the angle that stands in the first octant for one within a turn
 abbrev pub from_middle : ℕ → ℕ
 from_middle angle =
     cond (nat_eq (angle / 47185920 % 2) 0) (47185920 - angle % 47185920) (angle % 47185920)
 
 abbrev pub first_point : ℤ → Point
-first_point z = eighth_point (from_middle (in_one_turn z))
+first_point z = octant_point (from_middle (in_one_turn z))
 
 abbrev pub direction : ℤ → Point
-direction z = in_eighth (in_one_turn z / 47185920) (first_point z)
+direction z = in_octant (in_one_turn z / 47185920) (first_point z)
 
 -- how far the point is from the origin
 abbrev pub radius : ℤ → ℕ
@@ -93,8 +93,8 @@ abbrev pub cosine_of : ℤ → ℤ
 cosine_of z = round ((direction z).x *ℤ pos 268435456) (pos (radius z))
 
 -- the bounds that hold after n turns
-pub record IsWithinReach (n : ℕ) (x y : ℤ) : Type 0 where
-  pub near_x : unsigned_abs x ≤ reach n
-  pub near_y : unsigned_abs y ≤ reach n
-  pub low_x : pos 1342177280 ≤ℤ (pos 4 *ℤ x +ℤ pos (reach n))
-  pub low_y : pos 536870912 ≤ℤ (y +ℤ pos (reach n))
+pub record IsBoundedAfter (n : ℕ) (x y : ℤ) : Type 0 where
+  pub near_x : unsigned_abs x ≤ bound_after n
+  pub near_y : unsigned_abs y ≤ bound_after n
+  pub low_x : pos 1342177280 ≤ℤ (pos 4 *ℤ x +ℤ pos (bound_after n))
+  pub low_y : pos 536870912 ≤ℤ (y +ℤ pos (bound_after n))

@@ -7,6 +7,7 @@
 
 mod directions;
 mod fault;
+mod laws;
 mod logs;
 mod quotient;
 mod roots;
@@ -15,6 +16,7 @@ mod table;
 
 pub use directions::angle_of;
 pub use fault::TrigFault;
+pub use laws::nearest_roots_are_single;
 pub use logs::{mexp, mlog};
 pub use roots::{pyth_add, pyth_sub, square_root};
 pub use sines::sin_cos;

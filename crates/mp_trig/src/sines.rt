@@ -3,7 +3,7 @@
 ghost use Rattle.std.specs.Prelude.{◌≡◌, ◌≤◌, ◌<◌, ◌+◌, ◌*◌, ◌/◌, ◌%◌, max, pos, ◌*ℤ◌, ◌≤ℤ◌, ◌<ℤ◌, unsigned_abs};
 ghost use Rattle.mp_scaled.specs.Round.{round};
 ghost use Rattle.mp_trig.specs.Roots.{nearest_root, square};
-ghost use Rattle.mp_trig.specs.Sines.{Turned, sine_turn, turned_by, eighth_point, in_eighth, in_one_turn, from_middle, first_point, direction, radius, sine_of, cosine_of, IsWithinReach};
+ghost use Rattle.mp_trig.specs.Sines.{Turned, sine_turn, turned_by, octant_point, in_octant, in_one_turn, from_middle, first_point, direction, radius, sine_of, cosine_of, IsBoundedAfter};
 
 use crate::quotient::over_power;
 use crate::roots::nearest;
@@ -14,7 +14,7 @@ use mp_scaled::make_fraction;
 const TURN: i32 = 360 << 20;
 
 /// 45 degrees.
-const EIGHTH: u32 = 45 << 20;
+const OCTANT: u32 = 45 << 20;
 
 /// The sine and the cosine of an angle in units of 2^-20 degree, as fractions from -1 to 1.
 pub fn sin_cos(z: i32) -> (i32, i32)
@@ -24,9 +24,9 @@ pub fn sin_cos(z: i32) -> (i32, i32)
     ensures small_cosine { unsigned_abs result.1 ≤ 268435456 }
 {
     let angle = within_turn(z);
-    let (x, y) = eighth_point(from_middle(angle));
+    let (x, y) = octant_point(from_middle(angle));
     let radius = radius(x, y);
-    let (x, y) = in_eighth(angle / EIGHTH, x, y);
+    let (x, y) = in_octant(angle / OCTANT, x, y);
     (fraction(y, radius), fraction(x, radius))
 }
 
@@ -38,23 +38,23 @@ fn within_turn(z: i32) -> u32
     z.rem_euclid(TURN) as u32
 }
 
-/// The angle between 45 degrees and the one that stands in the first eighth for an angle.
+/// The angle between 45 degrees and the one that stands in the first octant for an angle.
 fn from_middle(angle: u32) -> u32
     ensures exact { result ≡ from_middle angle }
     ensures small { result ≤ 47185920 }
 {
-    let rest = angle % EIGHTH;
-    if angle / EIGHTH % 2 == 0 {
-        EIGHTH - rest
+    let rest = angle % OCTANT;
+    if angle / OCTANT % 2 == 0 {
+        OCTANT - rest
     } else {
         rest
     }
 }
 
-/// A point of the first eighth, from the angle between 45 degrees and it.
-#[tactic(auto, using(crate::proofs::SineLemmas::reaching))]
-fn eighth_point(angle: u32) -> (i64, i64)
-    ensures exact { record { x = result.0; y = result.1 } ≡ eighth_point angle }
+/// A point of the first octant, from the angle between 45 degrees and it.
+#[tactic(auto, using(crate::proofs::SineLemmas::bounding))]
+fn octant_point(angle: u32) -> (i64, i64)
+    ensures exact { record { x = result.0; y = result.1 } ≡ octant_point angle }
     ensures positive { pos 0 <ℤ result.0 }
     ensures near_x { result.0 ≤ℤ pos 715827882 }
     ensures not_below { pos 0 ≤ℤ result.1 }
@@ -70,13 +70,13 @@ fn eighth_point(angle: u32) -> (i64, i64)
 }
 
 /// A turn with tangent `2^-(n + 1)`, where the angle left is not smaller.
-#[tactic(auto, using(crate::proofs::SineLemmas::reaching))]
+#[tactic(auto, using(crate::proofs::SineLemmas::bounding))]
 fn sine_turn(n: u32, x: i64, y: i64, left: u32) -> (i64, i64, u32)
     requires place { n < 26 }
-    requires near { IsWithinReach n x y }
+    requires near { IsBoundedAfter n x y }
     ensures exact { record { x = result.0; y = result.1; left = result.2 } ≡
         sine_turn n (record { x = x; y = y; left = left }) }
-    ensures still_near { IsWithinReach (n + 1) result.0 result.1 }
+    ensures still_near { IsBoundedAfter (n + 1) result.0 result.1 }
 {
     let entry = angle_entry(n + 1);
     if left >= entry {
@@ -116,18 +116,18 @@ fn hypotenuse(x: u64, y: u64) -> u64
     nearest(x * x + y * y)
 }
 
-/// The point that stands in an eighth of the turn for one of the first eighth.
-fn in_eighth(eighth: u32, x: i64, y: i64) -> (i64, i64)
-    requires place { eighth < 8 }
+/// The point that stands in an octant of the turn for one of the first octant.
+fn in_octant(octant: u32, x: i64, y: i64) -> (i64, i64)
+    requires place { octant < 8 }
     requires positive { pos 0 <ℤ x }
     requires near_x { x ≤ℤ pos 715827882 }
     requires not_below { pos 0 ≤ℤ y }
     requires near_y { y ≤ℤ pos 715827882 }
-    ensures exact { record { x = result.0; y = result.1 } ≡ in_eighth eighth (record { x = x; y = y }) }
+    ensures exact { record { x = result.0; y = result.1 } ≡ in_octant octant (record { x = x; y = y }) }
     ensures within_x { unsigned_abs result.0 ≤ max (unsigned_abs x) (unsigned_abs y) }
     ensures within_y { unsigned_abs result.1 ≤ max (unsigned_abs x) (unsigned_abs y) }
 {
-    match eighth {
+    match octant {
         0 => (x, y),
         1 => (y, x),
         2 => (-y, x),

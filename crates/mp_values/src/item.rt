@@ -5,9 +5,8 @@ ghost use Rattle.mp_values.specs.Items.{item_of};
 
 use crate::{Scaled, Value};
 use mp_report::Place;
-use mp_scaled::{NoMemory, SharedSlice};
+use mp_scaled::{NoMemory, Shared, SharedSlice};
 use mp_tokens::{BadToken, Token};
-use std::alloc::Global;
 
 /// A piece of a text.
 #[derive(Debug, Drop)]
@@ -21,7 +20,7 @@ pub enum Item {
     /// Bytes that make no token.
     Bad(BadToken),
     /// A value that stands for an expression which was evaluated.
-    Capsule(Value),
+    Capsule(Shared<Value>),
     /// A parameter of the body that the item stands in: the argument of that number, from 0 on.
     Param(u8),
     /// The end of a line.
@@ -46,16 +45,16 @@ impl Item {
         }
     }
 
-    /// The item once more; a string is shared.
-    pub fn copy(&self, alloc: Global) -> Result<Item, NoMemory>
-        ensures { IfOk result (λ copy. copy ≡ self.now) }
+    /// The item once more; a string and a value are shared.
+    pub fn share(&self) -> Result<Item, NoMemory>
+        ensures { IfOk result (λ item. item ≡ self.now) }
     {
         match self {
             Item::Symbol(symbol) => Ok(Item::Symbol(*symbol)),
             Item::Number(value) => Ok(Item::Number(*value)),
             Item::Text(bytes) => Ok(Item::Text(bytes.share()?)),
             Item::Bad(cause) => Ok(Item::Bad(*cause)),
-            Item::Capsule(value) => Ok(Item::Capsule(value.copy(alloc)?)),
+            Item::Capsule(value) => Ok(Item::Capsule(value.share()?)),
             Item::Param(number) => Ok(Item::Param(*number)),
             Item::LineEnd(place) => Ok(Item::LineEnd(*place)),
             Item::FileEnd => Ok(Item::FileEnd),

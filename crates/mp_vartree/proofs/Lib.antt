@@ -10,6 +10,8 @@ pub mod RootLemmas
 pub mod TagLemmas
 pub mod EntryLemmas
 pub mod VarsLemmas
+pub mod GroupLemmas
+pub mod CoverLemmas
 pub mod GatherLemmas
 pub mod SerialLemmas
 pub mod MadeLemmas

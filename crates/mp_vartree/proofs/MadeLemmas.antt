@@ -13,9 +13,9 @@ use Rattle.std.specs.FinMap.{find, get, entries, entries_sorted, get-empty, is_s
 use Rattle.std.specs.FinMap.Entries.{below_all, where_key}
 use mathlib.Core.Bool.{true≢false}
 use Rattle.mp_vartree.specs.Names.{name_cmp, full_name, full_pattern, is_meant}
-use Rattle.mp_vartree.specs.Gathered.{has, Gathers}
+use Rattle.mp_vartree.specs.Layout.Gathered.{has, Gathers, InVariable}
 use Rattle.mp_vartree.specs.Variables.{Variables, made_for, made_for_any, made_for_one, made, made_at, variable_at}
-use Rattle.mp_vartree.specs.Tags.{variables_in}
+use Rattle.mp_vartree.specs.Layout.Tags.{variables_in}
 use Rattle.mp_vartree.specs.declared.names.Part.{Part}
 use Rattle.mp_vartree.specs.declared.names.Shape.{Shape}
 use Rattle.mp_vartree.specs.declared.entry.Variable.{Variable}
@@ -43,7 +43,7 @@ names_total = lists_total by_part.total
 names_same : IsAntisymmetric name_cmp
 names_same = slice_cmp-IsAntisymmetric by_part.only
 
-has_append : (n : ℕ) (ms ns : List ℕ) → has n (ms ++ ns) ≡ (has n ms || has n ns)
+pub has_append : (n : ℕ) (ms ns : List ℕ) → has n (ms ++ ns) ≡ (has n ms || has n ns)
 has_append n ms ns = list_any-append (λ k. is_eq (nat_cmp n k)) ms ns
 
 not_equal : (r : Ordering) → r ≡ Less → is_eq (ordering_reverse r) ≡ false
@@ -71,13 +71,13 @@ not_before x0 k (e ∷ es) x below found =
     ] refl found
 
 -- an entry that is found, and was made for
-abbrev Made : List (List Part × Variable) → (List Part → Bool) → ℕ → Type 0
+abbrev pub Made : List (List Part × Variable) → (List Part → Bool) → ℕ → Type 0
 Made es test n = (k : List Part) × (x : Variable) × (find name_cmp k es ≡ Some x) × (test k ≡ true) × (has n (made_for x) ≡ true)
 
 later : (e : List Part × Variable) (es : List (List Part × Variable)) (test : List Part → Bool) (n : ℕ) → below_all name_cmp e.0 es ≡ true → Made es test n → Made (e ∷ es) test n
 later e es test n below m = (m.0, m.1, ap (λ b. cond b (Some e.1) (find name_cmp m.0 es)) (not_before e.0 m.0 es m.1 below m.2) ∙ m.2, m.3, m.4)
 
-made_from : (es : List (List Part × Variable)) (test : List Part → Bool) (n : ℕ) → is_sorted name_cmp es ≡ true → has n (made_for_any (where_key name_cmp test es)) ≡ true → Made es test n
+pub made_from : (es : List (List Part × Variable)) (test : List Part → Bool) (n : ℕ) → is_sorted name_cmp es ≡ true → has n (made_for_any (where_key name_cmp test es)) ≡ true → Made es test n
 made_from [] test n sorted h = cc
 made_from (e ∷ es) test n sorted h =
     let parts = and_parts (below_all name_cmp e.0 es) (is_sorted name_cmp es) sorted in
@@ -94,7 +94,7 @@ kept_or : (b : Bool) (n : ℕ) (e : List Part × Variable) (rest : List (List Pa
 kept_or true n e rest h = has_append n (made_for e.1) (made_for_any rest) ∙ ap (λ b. has n (made_for e.1) || b) h ∙ or_true (has n (made_for e.1))
 kept_or false n e rest h = h
 
-made_to : (es : List (List Part × Variable)) (test : List Part → Bool) (n : ℕ) (k : List Part) (x : Variable) → find name_cmp k es ≡ Some x → test k ≡ true → has n (made_for x) ≡ true
+pub made_to : (es : List (List Part × Variable)) (test : List Part → Bool) (n : ℕ) (k : List Part) (x : Variable) → find name_cmp k es ≡ Some x → test k ≡ true → has n (made_for x) ≡ true
     → has n (made_for_any (where_key name_cmp test es)) ≡ true
 made_to [] test n k x found passes made = cc
 made_to (e ∷ es) test n k x found passes made =
@@ -110,14 +110,14 @@ none_some : {A : Type 0} (x : A) (o : Option A) → o ≡ None → o ≡ Some x 
 none_some x o e f = true≢false (ap is_some (sym f ∙ e))
 
 -- without a tag nothing is made
-pub made_of_none : (test : List Part → Bool) → Gathers [] [] (held_by None) test
-made_of_none test = record { kept = λ n h. h; all = λ n o. absurd (none_some o.1 _ (get-empty name_cmp o.0) o.2); only = λ n h. inl h }
+pub made_of_none : (test : List Part → Bool) → Gathers InVariable [] [] (held_by None) test
+made_of_none test = record { stays = λ n h. h; all = λ n o. absurd (none_some o.1 _ (get-empty name_cmp o.0) o.2); only = λ n h. inl h }
 
 module _ (roots : ℕ) (tags : List (ℕ × Tag)) (a : ℕ) (tag : Option Tag) (is : tag ≡ tag_at tags a) where
   there : (name : List Part) → find name_cmp (full_name a name) (entries (variables_in tags)) ≡ get (held_by tag) name
   there name = held_seen roots tags a name ∙ ap (λ t. get (held_by t) name) (sym is)
 
-  forth : (pattern : List Shape) (below : Bool) (ks : List ℕ) → Gathers [] ks (held_by tag) (is_meant below pattern) → (n : ℕ) → has n ks ≡ true
+  forth : (pattern : List Shape) (below : Bool) (ks : List ℕ) → Gathers InVariable [] ks (held_by tag) (is_meant below pattern) → (n : ℕ) → has n ks ≡ true
       → has n (made_for_any (where_key name_cmp (is_meant below (full_pattern a pattern)) (entries (variables_in tags)))) ≡ true
   forth pattern below ks gathered n h =
       elim (gathered.only n h) [
@@ -126,7 +126,7 @@ module _ (roots : ℕ) (tags : List (ℕ × Tag)) (a : ℕ) (tag : Option Tag) (
             made_to (entries (variables_in tags)) (is_meant below (full_pattern a pattern)) n (full_name a o.0) o.1 (there o.0 ∙ o.2) (meant_behind below a pattern o.0 ∙ o.3) o.4
       ]
 
-  back : (pattern : List Shape) (below : Bool) (ks : List ℕ) → Gathers [] ks (held_by tag) (is_meant below pattern) → (n : ℕ)
+  back : (pattern : List Shape) (below : Bool) (ks : List ℕ) → Gathers InVariable [] ks (held_by tag) (is_meant below pattern) → (n : ℕ)
       → has n (made_for_any (where_key name_cmp (is_meant below (full_pattern a pattern)) (entries (variables_in tags)))) ≡ true → has n ks ≡ true
   back pattern below ks gathered n h =
       let m = made_from (entries (variables_in tags)) (is_meant below (full_pattern a pattern)) n (T_is _ (entries_sorted (variables_in tags))) h in
@@ -134,7 +134,7 @@ module _ (roots : ℕ) (tags : List (ℕ × Tag)) (a : ℕ) (tag : Option Tag) (
       gathered.all n (k.0, m.1, sym (there k.0) ∙ ap (λ q. find name_cmp q (entries (variables_in tags))) (sym k.1) ∙ m.2, k.2, m.4)
 
   -- what was gathered is what was made
-  pub made_is : (pattern : List Shape) (below : Bool) (ks : List ℕ) → IsStrictlySortedBy nat_cmp ks → Gathers [] ks (held_by tag) (is_meant below pattern) → ks ≡ made (seen roots tags) a pattern below
+  pub made_is : (pattern : List Shape) (below : Bool) (ks : List ℕ) → IsStrictlySortedBy nat_cmp ks → Gathers InVariable [] ks (held_by tag) (is_meant below pattern) → ks ≡ made (seen roots tags) a pattern below
   made_is pattern below ks sorted gathered =
       increasing_is ks (made_for_any (where_key name_cmp (is_meant below (full_pattern a pattern)) (entries (variables_in tags)))) sorted
       (λ n. both_ways (has n ks) _ (forth pattern below ks gathered n) (back pattern below ks gathered n))

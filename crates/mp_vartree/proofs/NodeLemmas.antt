@@ -9,8 +9,8 @@ use Rattle.std.specs.FinMap.{FinMap, IsAntisymmetric, get, empty, get-empty, ret
 use Rattle.std.specs.Map.{lookup, keys_of}
 use Rattle.std.specs.List.{AllByRecursion, IsDistinct}
 use Rattle.std.specs.Map.Calls.{RetainsPairs}
-use Rattle.mp_vartree.specs.Tree.{Grown, node_of, nodes_in}
-use Rattle.mp_vartree.specs.Children.{paths_of}
+use Rattle.mp_vartree.specs.Layout.Tree.{Child, node_of, nodes_in}
+use Rattle.mp_vartree.specs.Layout.Children.{paths_of}
 use Rattle.mp_vartree.proofs.TreeLemmas.{ChangesChild, get-node_of, get-node_of-here, get-kept, tied, both_same, retain_steps}
 
 pub passed : {A B : Type 0} (f : A → B) (b : Bool) (x : A) (o : Option A) (p : Option B) → p ≡ option_map f o → cond b (Some (f x)) p ≡ option_map f (cond b (Some x) o)
@@ -22,89 +22,53 @@ then_map f g None = refl
 then_map f g (Some x) = refl
 
 module _ {K X : Type 0} (R : K → K → Ordering) (o : IsTotalOrder R) (same' : IsAntisymmetric R) where
-  child_paths : (p : K) (children : List (K × Grown R X)) → lookup (λ k. is_eq (R p k)) (paths_of children) ≡ option_map (λ g. g.paths) (lookup (λ k. is_eq (R p k)) children)
+  child_paths : (p : K) (children : List (K × Child R X)) → lookup (λ k. is_eq (R p k)) (paths_of children) ≡ option_map (λ g. g.value.paths) (lookup (λ k. is_eq (R p k)) children)
   child_paths p [] = refl
-  child_paths p (e ∷ es) = passed (λ g. g.paths) (is_eq (R p e.0)) e.1 _ _ (child_paths p es)
+  child_paths p (e ∷ es) = passed (λ g. g.value.paths) (is_eq (R p e.0)) e.1 _ _ (child_paths p es)
 
-  pub get-here : (held : Option X) (children : List (K × Grown R X)) → get (node_of R held (paths_of children)) [] ≡ held
+  pub get-here : (held : Option X) (children : List (K × Child R X)) → get (node_of R held (paths_of children)) [] ≡ held
   get-here held children = get-node_of-here R o same' held (paths_of children)
 
-  pub get-behind : (held : Option X) (children : List (K × Grown R X)) (p : K) (rest : List K)
-      → get (node_of R held (paths_of children)) (p ∷ rest) ≡ option_and_then (λ g. get g.paths rest) (lookup (λ k. is_eq (R p k)) children)
+  pub get-behind : (held : Option X) (children : List (K × Child R X)) (p : K) (rest : List K)
+      → get (node_of R held (paths_of children)) (p ∷ rest) ≡ option_and_then (λ g. get g.value.paths rest) (lookup (λ k. is_eq (R p k)) children)
   get-behind held children p rest =
       get-node_of R o same' held (paths_of children) p rest ∙ ap (option_and_then (λ child. get child rest)) (child_paths p children)
-      ∙ then_map (λ g. g.paths) (λ child. get child rest) (lookup (λ k. is_eq (R p k)) children)
+      ∙ then_map (λ g. g.value.paths) (λ child. get child rest) (lookup (λ k. is_eq (R p k)) children)
 
   -- a child's paths, or none
-  abbrev pub below : Option (Grown R X) → FinMap (slice_cmp R) X
+  abbrev pub below : Option (Child R X) → FinMap (slice_cmp R) X
   below None = empty
-  below (Some g) = g.paths
+  below (Some g) = g.value.paths
 
-  get-below : (child : Option (Grown R X)) (ps : List K) → option_and_then (λ g. get g.paths ps) child ≡ get (below child) ps
+  get-below : (child : Option (Child R X)) (ps : List K) → option_and_then (λ g. get g.value.paths ps) child ≡ get (below child) ps
   get-below None ps = sym (get-empty (slice_cmp R) ps)
   get-below (Some g) ps = refl
 
-  changed : (b : Bool) (w : Option (Grown R X)) (old : Option (Grown R X)) (ps : List K) → option_and_then (λ g. get g.paths ps) (cond b w old) ≡ cond b (get (below w) ps) (option_and_then (λ g. get g.paths ps) old)
+  changed : (b : Bool) (w : Option (Child R X)) (old : Option (Child R X)) (ps : List K) → option_and_then (λ g. get g.value.paths ps) (cond b w old) ≡ cond b (get (below w) ps) (option_and_then (λ g. get g.value.paths ps) old)
   changed true w old ps = get-below w ps
   changed false w old ps = refl
 
   -- where one child changes
-  pub changes_child : (held : Option X) (children new : List (K × Grown R X)) (k : K) (w : Option (Grown R X))
+  pub changes_child : (held : Option X) (children new : List (K × Child R X)) (k : K) (w : Option (Child R X))
       → ((q : K) → lookup (λ p. is_eq (R q p)) new ≡ cond (is_eq (R k q)) w (lookup (λ p. is_eq (R q p)) children))
       → ChangesChild R o same' k (node_of R held (paths_of children)) (node_of R held (paths_of new)) (below (lookup (λ p. is_eq (R k p)) children)) (below w)
   changes_child held children new k w updates = record {
     here = get-here held new ∙ sym (get-here held children);
     behind = λ p ps.
-        get-behind held new p ps ∙ ap (option_and_then (λ g. get g.paths ps)) (updates p)
+        get-behind held new p ps ∙ ap (option_and_then (λ g. get g.value.paths ps)) (updates p)
         ∙ changed (is_eq (R k p)) w (lookup (λ q. is_eq (R p q)) children) ps ∙ ap (cond (is_eq (R k p)) (get (below w) ps)) (sym (get-behind held children p ps));
     before = λ ps. get-behind held children k ps ∙ get-below (lookup (λ p. is_eq (R k p)) children) ps;
   }
 
-  absent : (k : K) (es : List (K × Grown R X)) → AllByRecursion (λ q. eq_by_cmp R k q ≡ false) (keys_of es) → lookup (λ q. is_eq (R k q)) es ≡ None
-  absent k [] none = refl
-  absent k (e ∷ es) none = ap (λ b. cond b (Some e.1) (lookup (λ q. is_eq (R k q)) es)) none.0 ∙ absent k es none.1
-
-  -- a child that is kept or dropped, before others that were
-  one_kept : (b same t : Bool) (w v : Grown R X) (others others' : Option (Grown R X)) (k : K) (ps : List K)
-      → (b ≡ false → w.paths ≡ empty) → (same ≡ true → get w.paths ps ≡ cond t (get v.paths ps) None) → (same ≡ true → others ≡ None)
-      → option_and_then (λ g. get g.paths ps) others' ≡ cond t (option_and_then (λ g. get g.paths ps) others) None
-      → option_and_then (λ g. get g.paths ps) (cond b (cond same (Some w) others') others') ≡ cond t (option_and_then (λ g. get g.paths ps) (cond same (Some v) others)) None
-  one_kept true true t w v others others' k ps bare here none rest = here refl
-  one_kept true false t w v others others' k ps bare here none rest = rest
-  one_kept false true t w v others others' k ps bare here none rest =
-      rest ∙ ap (λ o. cond t (option_and_then (λ g. get g.paths ps) o) None) (none refl) ∙ sym (both_same t None)
-      ∙ sym (get-empty (slice_cmp R) ps) ∙ ap (λ m. get m ps) (sym (bare refl)) ∙ here refl
-  one_kept false false t w v others others' k ps bare here none rest = rest
-
-  pushed : (b : Bool) (q k : K) (w : Grown R X) (rest : List (K × Grown R X))
-      → lookup (λ k. is_eq (R q k)) (cond b ((k, w) ∷ rest) rest) ≡ cond b (cond (is_eq (R q k)) (Some w) (lookup (λ k. is_eq (R q k)) rest)) (lookup (λ k. is_eq (R q k)) rest)
-  pushed true q k w rest = refl
-  pushed false q k w rest = refl
-
-  -- a closure that keeps of each child the paths that pass, and drops none but bare children
-  pub retained_pairs : {F : Type 0} (T : F → K → Grown R X → Bool → Grown R X → F → Type 0) (f : F) (test : List K → Bool)
-      → ((k : K) (v : Grown R X) (b : Bool) (w : Grown R X) (f' : F) → T f k v b w f' → (b ≡ false → w.paths ≡ empty) × (w.paths ≡ retain_keys v.paths (λ ps. test (k ∷ ps))) × (f' ≡ f))
-      → (es kept : List (K × Grown R X)) → IsDistinct (eq_by_cmp R) (keys_of es) → RetainsPairs T f es kept → (q : K) (ps : List K)
-      → option_and_then (λ g. get g.paths ps) (lookup (λ k. is_eq (R q k)) kept) ≡ cond (test (q ∷ ps)) (option_and_then (λ g. get g.paths ps) (lookup (λ k. is_eq (R q k)) es)) None
-  unfolding IsDistinct
-  retained_pairs T f test each [] kept distinct r q ps = ap (λ es. option_and_then (λ g. get g.paths ps) (lookup (λ k. is_eq (R q k)) es)) r ∙ both_same (test (q ∷ ps)) None
-  retained_pairs {F} T f test each (e ∷ es) kept distinct (b, w, f', rest, t, r, is) q ps =
-      let one = each e.0 e.1 b w f' t in
-      let others = retained_pairs T f test each es rest distinct.1 (subst (λ s. RetainsPairs T s es rest) one.2 r) q ps in
-      ap (λ xs. option_and_then (λ g. get g.paths ps) (lookup (λ k. is_eq (R q k)) xs)) is ∙ ap (option_and_then (λ g. get g.paths ps)) (pushed b q e.0 w rest)
-      ∙ one_kept b (is_eq (R q e.0)) (test (q ∷ ps)) w e.1 (lookup (λ k. is_eq (R q k)) es) (lookup (λ k. is_eq (R q k)) rest) q ps one.0
-      (λ same. ap (λ m. get m ps) one.1 ∙ get-kept R o same' e.1.paths (λ ps. test (e.0 ∷ ps)) ps ∙ ap (λ k. cond (test (k ∷ ps)) (get e.1.paths ps) None) (sym (tied R o same' q e.0 same)))
-      (λ same. ap (λ p. lookup (λ k. is_eq (R p k)) es) (tied R o same' q e.0 same) ∙ absent e.0 es distinct.0) others
-
   -- where of each child those paths are kept that pass
-  pub retained_children : (held held' : Option X) (children new : List (K × Grown R X)) (test : List K → Bool) → held' ≡ cond (test []) held None
-      → ((q : K) (ps : List K) → option_and_then (λ g. get g.paths ps) (lookup (λ k. is_eq (R q k)) new) ≡ cond (test (q ∷ ps)) (option_and_then (λ g. get g.paths ps) (lookup (λ k. is_eq (R q k)) children)) None)
+  pub retained_children : (held held' : Option X) (children new : List (K × Child R X)) (test : List K → Bool) → held' ≡ cond (test []) held None
+      → ((q : K) (ps : List K) → option_and_then (λ g. get g.value.paths ps) (lookup (λ k. is_eq (R q k)) new) ≡ cond (test (q ∷ ps)) (option_and_then (λ g. get g.value.paths ps) (lookup (λ k. is_eq (R q k)) children)) None)
       → node_of R held' (paths_of new) ≡ retain_keys (node_of R held (paths_of children)) test
   retained_children held held' children new test here behind =
       retain_steps R o same' (node_of R held (paths_of children)) (node_of R held' (paths_of new)) test
       (get-here held' new ∙ here ∙ ap (λ h. cond (test []) h None) (sym (get-here held children)))
       (λ p ps. get-behind held' new p ps ∙ behind p ps ∙ ap (λ found. cond (test (p ∷ ps)) found None) (sym (get-behind held children p ps)))
 
-pub child_falls : {J K X : Type 0} {R : K → K → Ordering} (before after : List (J × Grown R X)) (k : J) (child : Grown R X) → child.nodes < suc (nodes_in (before ++ (k, child) ∷ after))
+pub child_falls : {J K X : Type 0} {R : K → K → Ordering} (before after : List (J × Child R X)) (k : J) (child : Child R X) → child.value.nodes < suc (nodes_in (before ++ (k, child) ∷ after))
 child_falls [] after k child = omega arith
 child_falls (e ∷ es) after k child = omega (arith, child_falls es after k child)

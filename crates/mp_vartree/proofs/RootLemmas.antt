@@ -5,7 +5,7 @@ use Rattle.std.specs.Ordering.{is_eq, nat_cmp}
 use Rattle.std.specs.Map.{lookup}
 use Rattle.std.specs.Cmp.Lexicographic.{slice_cmp}
 use Rattle.std.specs.FinMap.{FinMap, get, empty, get-empty, insert, retain_keys}
-use Rattle.mp_vartree.specs.Tree.{joined}
+use Rattle.mp_vartree.specs.Layout.Tree.{joined}
 use Rattle.mp_vartree.specs.declared.names.Part.{Part}
 use Rattle.mp_vartree.specs.declared.names.Part.TheVariants as part
 use Rattle.mp_vartree.specs.declared.names.Shape.{Shape}

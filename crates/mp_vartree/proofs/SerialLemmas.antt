@@ -9,7 +9,7 @@ use Rattle.std.specs.List.Sorted.{IsStrictlySortedBy}
 use Rattle.std.specs.FinMap.{find, put, is_sorted, nat_cmp-IsAntisymmetric}
 use Rattle.std.specs.FinMap.Entries.{by_order, below_all, find-put, is_sorted-put, same_entries}
 use Rattle.mp_vartree.specs.Serials.{with_number, increasing}
-use Rattle.mp_vartree.specs.Gathered.{has}
+use Rattle.mp_vartree.specs.Layout.Gathered.{has}
 
 both : (a b : Bool) → T a → T b → T (a && b)
 both true b p q = q

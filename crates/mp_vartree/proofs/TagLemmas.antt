@@ -4,7 +4,7 @@ use Rattle.std.specs.Ordering.{nat_cmp}
 use Rattle.std.specs.BTreeMap as map
 use Rattle.std.specs.FinMap.{FinMap, empty}
 use Rattle.mp_vartree.specs.Names.{name_cmp, pattern_cmp}
-use Rattle.mp_vartree.specs.Tags.{declarations_in, variables_in}
+use Rattle.mp_vartree.specs.Layout.Tags.{declarations_in, variables_in}
 use Rattle.mp_vartree.specs.declared.entry.Declared.{Declared}
 use Rattle.mp_vartree.specs.declared.entry.Variable.{Variable}
 use Rattle.mp_vartree.specs.declared.tag.Tag.{Tag}
@@ -16,7 +16,7 @@ abbrev pub declarations_of : Tag → FinMap pattern_cmp Declared
 declarations_of tag = tag.declarations.paths
 
 abbrev pub variables_of : Tag → FinMap name_cmp Variable
-variables_of tag = tag.variables.paths
+variables_of tag = tag.variables
 
 pub none_there : {A : Type 0} (o : Option A) → is_some o ≡ false → None ≡ o
 none_there None e = refl
@@ -28,7 +28,7 @@ pub fresh_declarations : (tags new : BTreeMap ℕ Tag) (a : ℕ) (tag : Tag) →
 fresh_declarations tags new a tag none updates fresh =
     root.tag_kept by_shape shape_roots declarations_of a tags.entries new.entries None (Some tag) (none_there (map.get nat_cmp tags a) none) updates.0 fresh
 
-pub fresh_variables : (tags new : BTreeMap ℕ Tag) (a : ℕ) (tag : Tag) → is_some (map.get nat_cmp tags a) ≡ false → map.Updates nat_cmp tags new a (Some tag) → tag.variables.paths ≡ empty
+pub fresh_variables : (tags new : BTreeMap ℕ Tag) (a : ℕ) (tag : Tag) → is_some (map.get nat_cmp tags a) ≡ false → map.Updates nat_cmp tags new a (Some tag) → tag.variables ≡ empty
     → variables_in new.entries ≡ variables_in tags.entries
 fresh_variables tags new a tag none updates fresh =
     root.tag_kept by_part part_roots variables_of a tags.entries new.entries None (Some tag) (none_there (map.get nat_cmp tags a) none) updates.0 fresh

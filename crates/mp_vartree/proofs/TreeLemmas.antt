@@ -8,7 +8,7 @@ use Rattle.std.specs.Cmp.{IsTotalOrder, eq_by_cmp_equiv}
 use Rattle.std.specs.Cmp.Lexicographic.{slice_cmp, lists_total}
 use Rattle.std.specs.FinMap.{FinMap, IsAntisymmetric, slice_cmp-IsAntisymmetric, empty, get, insert, find, entries, retain_keys, get-insert, get-empty, get-entries, get-retain_keys, same_map}
 use Rattle.std.specs.Map.{lookup}
-use Rattle.mp_vartree.specs.Tree.{starts, with_each, with_child, joined, node_of}
+use Rattle.mp_vartree.specs.Layout.Tree.{starts, with_each, with_child, joined, node_of}
 
 -- the first, if there is one, else the other
 abbrev pub option_or : {X : Type 0} → Option X → Option X → Option X
@@ -38,7 +38,7 @@ pub both_same : {X : Type 0} (b : Bool) (x : X) → x ≡ cond b x x
 both_same true x = refl
 both_same false x = refl
 
-through : {A X : Type 0} (b : Bool) (f : A → Option X) (a : A) (other : Option A) → cond b (f a) (option_and_then f other) ≡ option_and_then f (cond b (Some a) other)
+pub through : {A X : Type 0} (b : Bool) (f : A → Option X) (a : A) (other : Option A) → cond b (f a) (option_and_then f other) ≡ option_and_then f (cond b (Some a) other)
 through true f a other = refl
 through false f a other = refl
 

@@ -9,10 +9,10 @@ use Rattle.std.specs.BTreeMap as map
 use Rattle.std.specs.FinMap.{FinMap, entries, get, insert, retain_keys, get-entries, get-empty, entries-insert, slice_cmp-IsAntisymmetric}
 use Rattle.mp_vartree.specs.Names.{part_cmp, shape_cmp, name_cmp, pattern_cmp, full_pattern, pattern_of, is_meant, begins, is_of_root}
 use Rattle.mp_vartree.specs.Declarations.{kind_in, macro_in, first_macro, is_below_macro}
-use Rattle.mp_vartree.specs.Variables.{Variables, no_variables, declared_at, macro_at, variable_at, with_declared, without, with_variable, forget, find_of, found_by, type_of, define, store_as, wanted_kind}
+use Rattle.mp_vartree.specs.Variables.{Variables, no_variables, declared_at, macro_at, variable_at, with_declared, without, with_variable, forget, macro_of, type_of, define, store_as, wanted_kind}
 use Rattle.mp_vartree.specs.Kinds.{kind_of, is_kind}
 use Rattle.mp_values.specs.declared.value.Value.{Value}
-use Rattle.mp_vartree.specs.Tags.{declarations_in, variables_in}
+use Rattle.mp_vartree.specs.Layout.Tags.{declarations_in, variables_in}
 use Rattle.mp_vartree.specs.declared.names.Part.{Part}
 use Rattle.mp_vartree.specs.declared.names.Part.TheVariants as part
 use Rattle.mp_vartree.specs.declared.names.Shape.{Shape}
@@ -20,7 +20,6 @@ use Rattle.mp_vartree.specs.declared.names.Shape.TheVariants as shape
 use Rattle.mp_vartree.specs.declared.entry.Declared.{Declared}
 use Rattle.mp_vartree.specs.declared.entry.Variable.{Variable}
 use Rattle.mp_vartree.specs.declared.tag.Tag.{Tag}
-use Rattle.mp_vartree.specs.declared.answers.Found.TheVariants.{Nothing}
 use Rattle.mp_vartree.proofs.OrderLemmas.{by_part, by_shape}
 use Rattle.mp_vartree.proofs.TreeLemmas.{retain_none}
 use Rattle.mp_vartree.proofs.DeclarationLemmas.{none_on}
@@ -58,7 +57,7 @@ macros_seen roots tags a = λ i pattern. macro_in (declared_seen roots tags a pa
 -- a pattern is defined in a tag
 pub defined : (roots : ℕ) (tags new : List (ℕ × Tag)) (a : ℕ) (tag tag' : Tag) (name : List Shape) (d : Declared) (below : Bool) → Some tag ≡ tag_at tags a
     → ((q : ℕ) → tag_at new q ≡ cond (is_eq (nat_cmp a q)) (Some tag') (tag_at tags q))
-    → tag'.declarations.paths ≡ insert tag.declarations.paths name d → tag'.variables.paths ≡ retain_keys tag.variables.paths (λ n. not (is_meant below name n))
+    → tag'.declarations.paths ≡ insert tag.declarations.paths name d → tag'.variables ≡ retain_keys tag.variables (λ n. not (is_meant below name n))
     → seen roots new ≡ without (with_declared (seen roots tags) (full_pattern a name) d) (is_meant below (full_pattern a name))
 defined roots tags new a tag tag' name d below was updates put kept =
     let declarations =
@@ -73,7 +72,7 @@ defined roots tags new a tag tag' name d below was updates put kept =
 -- a variable is put into a tag
 pub stored : (roots : ℕ) (tags new : List (ℕ × Tag)) (a : ℕ) (tag tag' : Tag) (name : List Part) (x : Variable) → Some tag ≡ tag_at tags a
     → ((q : ℕ) → tag_at new q ≡ cond (is_eq (nat_cmp a q)) (Some tag') (tag_at tags q))
-    → tag'.declarations.paths ≡ tag.declarations.paths → tag'.variables.paths ≡ insert tag.variables.paths name x
+    → tag'.declarations.paths ≡ tag.declarations.paths → tag'.variables ≡ insert tag.variables name x
     → seen roots new ≡ with_variable (seen roots tags) a name x
 stored roots tags new a tag tag' name x was updates same put =
     let declarations = ap entries (root.tag_kept by_shape shape_roots declarations_of a tags new (Some tag) (Some tag') was updates same) in
@@ -85,7 +84,7 @@ stored roots tags new a tag tag' name x was updates same put =
 -- a tag whose paths stay
 pub untouched : (roots : ℕ) (tags new : List (ℕ × Tag)) (a : ℕ) (tag tag' : Tag) → Some tag ≡ tag_at tags a
     → ((q : ℕ) → tag_at new q ≡ cond (is_eq (nat_cmp a q)) (Some tag') (tag_at tags q))
-    → tag'.declarations.paths ≡ tag.declarations.paths → tag'.variables.paths ≡ tag.variables.paths → seen roots new ≡ seen roots tags
+    → tag'.declarations.paths ≡ tag.declarations.paths → tag'.variables ≡ tag.variables → seen roots new ≡ seen roots tags
 untouched roots tags new a tag tag' was updates same same' =
     let declarations = ap entries (root.tag_kept by_shape shape_roots declarations_of a tags new (Some tag) (Some tag') was updates same) in
     let variables = ap entries (root.tag_kept by_part part_roots variables_of a tags new (Some tag) (Some tag') was updates same') in
@@ -112,17 +111,14 @@ forgotten roots tags new a updates =
     ∙ entries_retained name_cmp (lists_total by_part.total) (slice_cmp-IsAntisymmetric by_part.only) (variables_in tags) (λ n. not (begins (full_pattern a []) n)) in
     λ i. record { roots = roots; declarations = declarations i; variables = variables i }
 
--- what is found, by the tag of the root
-pub found_in : (roots : ℕ) (tags : List (ℕ × Tag)) (a : ℕ) (name : List Part) (tag : Option Tag) → tag ≡ tag_at tags a
-    → find_of (seen roots tags) a name ≡ found_by (first_macro (λ pattern. macro_in (get (declared_by tag) pattern)) (pattern_of name) 0) (get (held_by tag) name)
-found_in roots tags a name tag is =
-    (λ i. found_by (first_macro (macros_seen roots tags a i) (pattern_of name) 0) (held_seen roots tags a name i))
-    ∙ ap (λ t. found_by (first_macro (λ pattern. macro_in (get (declared_by t) pattern)) (pattern_of name) 0) (get (held_by t) name)) (sym is)
+-- the macro along a name, by the tag of the root
+pub macro_in_tag : (roots : ℕ) (tags : List (ℕ × Tag)) (a : ℕ) (name : List Part) (tag : Option Tag) → tag ≡ tag_at tags a
+    → first_macro (λ pattern. macro_in (get (declared_by tag) pattern)) (pattern_of name) 0 ≡ macro_of (seen roots tags) a name
+macro_in_tag roots tags a name tag is =
+    ap (λ t. first_macro (λ pattern. macro_in (get (declared_by t) pattern)) (pattern_of name) 0) is ∙ ap (λ at. first_macro at (pattern_of name) 0) (sym (macros_seen roots tags a))
 
--- nothing without a tag
-pub found_nothing : (name : List Part) → Nothing ≡ found_by (first_macro (λ pattern. macro_in (get (declared_by None) pattern)) (pattern_of name) 0) (get (held_by None) name)
-found_nothing name =
-    sym ((λ i. found_by (first_macro (λ pattern. macro_in (get-empty pattern_cmp pattern i)) (pattern_of name) 0) (get-empty name_cmp name i)) ∙ ap (λ m. found_by m None) (none_on (pattern_of name) 0))
+pub no_macro : (name : List Part) → None ≡ first_macro (λ pattern. macro_in (get (declared_by None) pattern)) (pattern_of name) 0
+no_macro name = sym ((λ i. first_macro (λ pattern. macro_in (get-empty pattern_cmp pattern i)) (pattern_of name) 0) ∙ none_on (pattern_of name) 0)
 
 -- the declared type, by the tag of the root
 pub type_in : (roots : ℕ) (tags : List (ℕ × Tag)) (a : ℕ) (name : List Part) (tag : Option Tag) → tag ≡ tag_at tags a → kind_in (get (declared_by tag) (pattern_of name)) ≡ type_of (seen roots tags) a name

@@ -1,5 +1,5 @@
 -- The kinds of values, and the unknowns in them.
-use Rattle.std.specs.Prelude.{ℕ, Bool, true, false, List, [], map, Option, Some, None}
+use Rattle.std.specs.Prelude.{ℕ, Bool, false, nat_eq, List, [], map, Option, Some, None}
 use Rattle.mp_values.specs.declared.value.Kind.{Kind}
 use Rattle.mp_values.specs.declared.value.Kind.TheVariants as kind
 use Rattle.mp_values.specs.declared.value.Value.{Value}
@@ -13,11 +13,14 @@ kind_of (value.Text bytes) = Some kind.Text
 kind_of (value.Unset k slot) = Some k
 kind_of value.Vacuous = None
 
+-- the number of a kind, by which kinds are told apart
+abbrev pub kind_number : Kind → ℕ
+kind_number kind.Boolean = 0
+kind_number kind.Numeric = 1
+kind_number kind.Text = 2
+
 abbrev pub kind_eq : Kind → Kind → Bool
-kind_eq kind.Boolean kind.Boolean = true
-kind_eq kind.Numeric kind.Numeric = true
-kind_eq kind.Text kind.Text = true
-kind_eq a b = false
+kind_eq a b = nat_eq (kind_number a) (kind_number b)
 
 abbrev pub is_kind : Kind → Option Kind → Bool
 is_kind wanted None = false
@@ -34,4 +37,7 @@ are_of_one_kind a b = kinds_agree (kind_of a) (kind_of b)
 -- the numbers of the unknowns in a value
 abbrev pub unknowns_in : Value → List ℕ
 unknowns_in (value.Numeric form) = map (λ term. term.serial) form.terms
-unknowns_in other = []
+unknowns_in (value.Boolean truth) = []
+unknowns_in (value.Text bytes) = []
+unknowns_in (value.Unset k slot) = []
+unknowns_in value.Vacuous = []

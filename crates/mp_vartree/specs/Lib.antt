@@ -3,10 +3,5 @@ pub mod Kinds
 pub mod Serials
 pub mod Declarations
 pub mod Variables
-pub mod Tree
-pub mod TreeFalls
-pub mod Children
-pub mod Coding
-pub mod Tags
-pub mod Gathered
 pub mod Laws
+pub mod Layout

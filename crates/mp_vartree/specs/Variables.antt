@@ -54,9 +54,13 @@ found_by None None = found.Nothing
 abbrev pub variable_at : Variables → ℕ → List Part → Option Variable
 variable_at v root name = find name_cmp (full_name root name) v.variables
 
+-- the macro of the shortest beginning of a name that is a macro's name, and the number of parts in that
+abbrev pub macro_of : Variables → ℕ → List Part → Option (Macro × ℕ)
+macro_of v root name = first_macro (macro_at v root) (pattern_of name) 0
+
 -- what a name stands for: a macro, or the value of a variable
 abbrev pub find_of : Variables → ℕ → List Part → Found
-find_of v root name = found_by (first_macro (macro_at v root) (pattern_of name) 0) (variable_at v root name)
+find_of v root name = found_by (macro_of v root name) (variable_at v root name)
 
 -- the root that was never given before
 abbrev pub with_new_root : Variables → Variables

@@ -31,14 +31,7 @@ impl PatternTree<Declared> {
     pub fn kind_of(&self, name: &[Part]) -> Option<Kind>
         ensures { result ≡ kind_in (get self.now.paths (pattern_of name.now)) }
     {
-        let mut node = self;
-        'walk: for part in name {
-            match node.child(Shape::of(*part)) {
-                None => return None,
-                Some(child) => node = child,
-            }
-        }
-        match node.held() {
+        match self.get(name) {
             Some(Declared::Typed(kind)) => Some(*kind),
             _ => None,
         }

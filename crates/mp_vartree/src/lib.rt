@@ -8,9 +8,10 @@
 mod answers;
 mod declarations;
 mod entry;
+mod group;
 mod kinds;
 mod laws;
-mod name_tree;
+mod name_map;
 mod names;
 mod pattern_tree;
 mod serials;

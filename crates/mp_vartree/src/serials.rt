@@ -1,16 +1,16 @@
 //! The unknowns that were made for variables.
 
-ghost use Rattle.std.specs.Prelude.{◌≡◌, ℕ, ◌||◌, [], ◌∷◌, List, IfOk, OnOk, OnErr};
+ghost use Rattle.std.specs.Prelude.{◌≡◌, ℕ, ◌||◌, true, false, [], IfOk, OnOk};
 ghost use Rattle.std.specs.Ordering.{nat_cmp};
 ghost use Rattle.std.specs.BTreeSet.{IsOrdered};
-ghost use Rattle.std.specs.FinMap.{get};
-ghost use Rattle.mp_vartree.specs.Names.{is_meant};
-ghost use Rattle.mp_vartree.specs.Variables.{made_for, made_for_one};
-ghost use Rattle.mp_vartree.specs.Gathered.{has, Gathers, Behind};
+ghost use Rattle.mp_vartree.specs.Variables.{made_for};
+ghost use Rattle.mp_vartree.specs.Layout.Groups.{covers};
+ghost use Rattle.mp_vartree.specs.Layout.Gathered.{has, Gathers, InGroup};
 
+use crate::Shape;
 use crate::entry::Variable;
-use crate::name_tree::NameTree;
-use crate::{Part, Shape};
+use crate::group::Group;
+use crate::pattern_tree::PatternTree;
 use mp_scaled::{Listing, NoMemory};
 use mp_values::Value;
 use std::alloc::Global;
@@ -46,70 +46,46 @@ pub fn add_made(variable: &Variable, into: &mut BTreeSet<u32>) -> Result<(), NoM
     Ok(())
 }
 
-/// What is left of a pattern behind a part, where a name that begins with the part may be meant.
-fn behind(pattern: &[Shape], below: bool, part: Part) -> Option<&[Shape]>
-    ensures { Behind below pattern.now part result }
-{
-    match pattern.split_first() {
-        None if below => Some(pattern),
-        None => None,
-        Some((shape, rest)) if *shape == Shape::of(part) => Some(rest),
-        Some(_) => None,
-    }
-}
-
-impl NameTree<Variable> {
-    /// Adds the unknowns that were made for the variable of the empty name.
+impl PatternTree<Group<Variable>> {
+    /// Adds the unknowns that were made for the variables of the empty pattern.
     fn add_held(&self, into: &mut BTreeSet<u32>) -> Result<(), NoMemory>
-        ensures { OnOk result ((n : ℕ) → has n into.new.keys ≡ (has n into.old.keys || has n (made_for_one (get self.now.paths [])))) }
+        ensures { OnOk result (Gathers InGroup into.old.keys into.new.keys self.now.paths (covers false [])) }
     {
         match self.held() {
-            Some(variable) => add_made(variable, into),
+            Some(group) => group.add_made(into),
             None => Ok(()),
         }
     }
 
-    /// Adds the unknowns that were made for the variables that match a pattern, or, where `below`, also for those that
-    /// have a beginning that does.
-    #[cycle(gather)]
+    /// Adds the unknowns that were made for all variables.
+    fn add_all(&self, into: &mut BTreeSet<u32>) -> Result<(), NoMemory>
+        ensures { OnOk result (Gathers InGroup into.old.keys into.new.keys self.now.paths (covers true [])) }
+    {
+        self.add_held(into)?;
+        let children = self.children();
+        'children: for (_, child) in children.iter() {
+            child.add_all(into)?;
+        }
+        Ok(())
+    }
+
+    /// Adds the unknowns that were made for the variables of a pattern, or, where `below`, also for those of the
+    /// patterns that begin with it.
     pub fn add_made(
         &self,
         pattern: &[Shape],
         below: bool,
         into: &mut BTreeSet<u32>,
     ) -> Result<(), NoMemory>
-        ensures { OnOk result (Gathers into.old.keys into.new.keys self.now.paths (is_meant below pattern.now)) }
+        ensures { OnOk result (Gathers InGroup into.old.keys into.new.keys self.now.paths (covers below pattern.now)) }
     {
         match pattern.split_first() {
-            Some((Shape::Sym(symbol), rest)) => {
-                match self.children().get(&Part::Sym(*symbol)) {
-                    Some(child) => child.add_made(rest, below, into),
-                    None => Ok(()),
-                }
-            }
-            _ => self.add_each(pattern, below, into),
+            None if below => self.add_all(into),
+            None => self.add_held(into),
+            Some((shape, rest)) => match self.child(*shape) {
+                Some(child) => child.add_made(rest, below, into),
+                None => Ok(()),
+            },
         }
-    }
-
-    /// The same, by a look at each child.
-    #[cycle(gather)]
-    fn add_each(
-        &self,
-        pattern: &[Shape],
-        below: bool,
-        into: &mut BTreeSet<u32>,
-    ) -> Result<(), NoMemory>
-        ensures { OnOk result (Gathers into.old.keys into.new.keys self.now.paths (is_meant below pattern.now)) }
-    {
-        if pattern.is_empty() {
-            self.add_held(into)?;
-        }
-        let children = self.children();
-        'children: for (part, child) in children.iter() {
-            if let Some(rest) = behind(pattern, below, *part) {
-                child.add_made(rest, below, into)?;
-            }
-        }
-        Ok(())
     }
 }

@@ -4,11 +4,11 @@ ghost use Rattle.std.specs.Prelude.{◌≡◌, OnOk, IsSome};
 ghost use Rattle.std.specs.FinMap.{empty};
 ghost use Rattle.std.specs.Ordering.{nat_cmp};
 ghost use Rattle.std.specs.BTreeMap as map;
-ghost use Rattle.mp_vartree.specs.Tags.{declarations_in, variables_in};
+ghost use Rattle.mp_vartree.specs.Layout.Tags.{declarations_in, variables_in};
 
 use crate::declarations::Declarations;
 use crate::entry::Variable;
-use crate::name_tree::NameTree;
+use crate::name_map::NameMap;
 use crate::pattern_tree::PatternTree;
 use mp_scaled::NoMemory;
 use std::alloc::Global;
@@ -18,18 +18,18 @@ use std::collections::BTreeMap;
 #[derive(Drop)]
 pub struct Tag {
     pub declarations: Declarations,
-    pub variables: NameTree<Variable>,
+    pub variables: NameMap<Variable>,
 }
 
 impl Tag {
     /// A tag of which nothing is known.
     pub fn new(alloc: Global) -> Tag
         ensures declarations { result.declarations.paths ≡ empty }
-        ensures variables { result.variables.paths ≡ empty }
+        ensures variables { result.variables ≡ empty }
     {
         Tag {
             declarations: PatternTree::new(alloc),
-            variables: NameTree::new(alloc),
+            variables: NameMap::new(alloc),
         }
     }
 }

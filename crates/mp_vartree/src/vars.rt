@@ -36,7 +36,7 @@ pub struct Vars {
 impl Model for Vars {
     ghost use Rattle.std.specs.FinMap.{entries};
     ghost use Rattle.mp_vartree.specs.Variables.{Variables};
-    ghost use Rattle.mp_vartree.specs.Tags.{declarations_in, variables_in};
+    ghost use Rattle.mp_vartree.specs.Layout.Tags.{declarations_in, variables_in};
 
     ghost Value = { Variables };
 
@@ -59,12 +59,14 @@ impl Vars {
         }
     }
 
-    /// A root that was never given before.
+    /// A root that was never given before: they count from 0.
     ///
-    /// Want of memory is answered where the numbers of roots are used up; then nothing has changed.
+    /// Want of memory is answered exactly where 2^32 - 1 roots were given, and then nothing has changed. It takes no
+    /// memory.
     pub fn new_root(&mut self) -> Result<u32, NoMemory>
         ensures root { IfOk result (λ root. root ≡ self.old.roots) }
         ensures ok { OnOk result (self.new ≡ with_new_root self.old) }
+        ensures full { IsErr result ↔ (self.old.roots ≡ 4294967295) }
         ensures err { OnErr result (self.new ≡ self.old) }
     {
         let root = self.roots;
@@ -116,15 +118,23 @@ impl Vars {
     pub fn find(&self, alloc: Global, root: u32, name: &[Part]) -> Result<Found, NoMemory>
         ensures { IfOk result (λ found. found ≡ variables.find_of self.now root name.now) }
     {
-        let Some(tag) = self.tags.get(&root) else {
-            return Ok(Found::Nothing);
-        };
-        if let Some((m, parts)) = tag.declarations.first_macro(name) {
+        if let Some((m, parts)) = self.macro_of(root, name) {
             return Ok(Found::Macro(m.share()?, parts));
         }
-        match tag.variables.get(name) {
+        match self.variable_at(root, name) {
             Some(variable) => Ok(Found::Value(variable.value.copy(alloc)?)),
             None => Ok(Found::Nothing),
+        }
+    }
+
+    /// The macro of the shortest beginning of a name that is a macro's name, and the number of parts in that. It takes no
+    /// memory.
+    pub fn macro_of(&self, root: u32, name: &[Part]) -> Option<(&Shared<Macro>, usize)>
+        ensures { option_map (λ m. (m.0.now, m.1)) result ≡ variables.macro_of self.now root name.now }
+    {
+        match self.tags.get(&root) {
+            Some(tag) => tag.declarations.first_macro(name),
+            None => None,
         }
     }
 

@@ -17,4 +17,4 @@ loop-term-preserved c =
     let same = to_z-of_z w64 c.times.result fits in
     let same' = to_z-of_z w64 (get_or terms i none).coefficient fits' in
     let more = changed_terms-more (ratio_times c.args.ratio.numerator c.args.ratio.denominator) c.args.to.now.items terms i none within in
-    cc (c.in_ok-push_lone.ensures)
+    cc (c.in_ok-push_from.ensures)

@@ -5,8 +5,8 @@ use Rattle.mp_forms.proofs.TermLemmas.{AreTerms-head, IsMerging-left, IsMerging-
 use Rattle.mp_forms.proofs.terms.sum_of_terms.Goals as goal
 use Rattle.mp_forms.proofs.terms.sum_of_terms.Goals.{in_default, in_default-2}
 
-pub overflow_add-p : goal.overflow_add-p
-overflow_add-p c =
+pub overflow_add-coefficient : goal.overflow_add-coefficient
+overflow_add-coefficient c =
     let p = AreTerms-head _ _ _ c.in-Some-Some.ensures.cases.0 c.merge.invariant.on_left in
     let q = AreTerms-head _ _ _ c.in-Some-Some.ensures'.cases.0 c.merge.invariant.on_right in
     omega (arith, ints)
@@ -17,8 +17,8 @@ merge-preserved-in_ok-push-in-Greater c =
     rw (c.in-Some-Some.ensures'.cases.0)
     (IsMerging-left (ratio_times c.args.ratio.numerator c.args.ratio.denominator) c.args.left.now c.args.right.now _ _ _ _ _ _ so_far c.in-Greater.ensures c.in_ok-push-in-Greater.ensures.items)
 
-pub merge-preserved-in_ok-push_joint-in-Equal : goal.merge-preserved-in_ok-push_joint-in-Equal
-merge-preserved-in_ok-push_joint-in-Equal c =
+pub merge-preserved-in_ok-push_from-in-Equal : goal.merge-preserved-in_ok-push_from-in-Equal
+merge-preserved-in_ok-push_from-in-Equal c =
     let so_far = rw (c.in-Some-Some.ensures.cases.0, c.in-Some-Some.ensures'.cases.0) at c.merge.invariant in
     let p = AreTerms-head _ _ _ c.in-Some-Some.ensures.cases.0 c.merge.invariant.on_left in
     let q = AreTerms-head _ _ _ c.in-Some-Some.ensures'.cases.0 c.merge.invariant.on_right in
@@ -27,7 +27,7 @@ merge-preserved-in_ok-push_joint-in-Equal c =
     let fits : FitsSigned w64 c.times.result = search rules in
     let sum_fits : FitsSigned w64 (c.in-Some-Some.p.now.coefficient +ℤ c.times.result) = omega (arith, ints) in
     let multiple = simp to_z-of_z at c.times.ensures.exact in
-    let pushed = simp to_z-of_z at c.in_ok-push_joint-in-Equal.ensures in
+    let pushed = simp to_z-of_z at c.in_ok-push_from-in-Equal.ensures in
     IsMerging-both (ratio_times c.args.ratio.numerator c.args.ratio.denominator) c.args.left.now c.args.right.now _ _ _ _ _ _ so_far c.in-Equal.ensures (simp multiple at pushed)
 
 pub merge-preserved : goal.merge-preserved
@@ -37,7 +37,7 @@ merge-preserved c =
     let q_fits : FitsSigned w64 c.in-Some-Some.q.now.coefficient = search rules in
     let fits : FitsSigned w64 c.times-in-Less.result = search rules in
     let multiple = simp to_z-of_z at c.times-in-Less.ensures.exact in
-    let pushed = simp to_z-of_z at c.in_ok-push_lone-in-Less.ensures in
+    let pushed = simp to_z-of_z at c.in_ok-push_from-in-Less.ensures in
     rw (c.in-Some-Some.ensures.cases.0)
     (IsMerging-right (ratio_times c.args.ratio.numerator c.args.ratio.denominator) c.args.left.now c.args.right.now _ _ _ _ _ _ so_far c.in-Less.ensures (simp multiple at pushed))
 

@@ -1,13 +1,5 @@
-use Rattle.std.proofs.Common.{◌≡◌, ◌<◌, true, length}
-use Rattle.std.specs.List.{All, fold}
-use Rattle.mp_solver.specs.Places.{AreListed}
-use Rattle.mp_solver.specs.Ready.{with_change}
+use Rattle.mp_solver.proofs.AppliedLemmas.{IsApplied}
 use Rattle.mp_solver.proofs.change.apply.Given as goal
 
 abbrev pub invariant-changes : goal.invariant-changes
-invariant-changes l = record {
-  states : l.states.items ≡ fold with_change l.fn.states.items l.yielded;
-  within : All (λ change. change.index < length l.fn.states.items) l.change-iterator.rest.items;
-  lists : length l.holders.items ≡ length l.fn.holders.items;
-  listed : l.all ≡ true → AreListed l.fn.states.items l.fn.holders.items → AreListed l.states.items l.holders.items;
-}
+invariant-changes l = IsApplied l.fn.states.items l.fn.holders.items l.states.items l.holders.items l.yielded l.change-iterator.rest.items l.all

@@ -2,7 +2,7 @@ use Rattle.std.proofs.Common.{◌<◌, pos, [], length, ◌≡◌, get_or, w32, 
 use Rattle.std.proofs.lemmas.Int.{to_z-of_z}
 use Rattle.std.proofs.lemmas.List.{take_all}
 use Rattle.mp_pool.specs.declared.Term.{Term}
-use Rattle.mp_forms.proofs.TermLemmas.{changed_terms-more}
+use Rattle.mp_solver.proofs.TermLists.{changed_terms-more}
 use Rattle.mp_solver.specs.Elimination.{over_negative}
 use Rattle.mp_solver.proofs.QuotientLemmas.{over_negative_small, fits32, fits64}
 use Rattle.mp_solver.proofs.solution.quotients.Goals as goal

@@ -21,7 +21,7 @@ of_terms-requires c =
     let fits = fits64 c.args.pivot.coefficient c.requires.small in
     let below = All-filter _ (λ t. unsigned_abs t.coefficient ≤ unsigned_abs c.args.pivot.coefficient) c.args.residual.now.terms c.requires.greatest in
     let ordered = rw c.terms.ensures.same at c.terms.ensures.ordered in
-    let are = AreTerms-over_negative c.args.pivot.coefficient (without c.args.pivot.serial c.args.residual.now.terms) c.requires.nonzero below (AreTerms-filter _ _ ordered) in
+    let are = AreTerms-over_negative c.terms_stay_in_order.ensures c.args.pivot.coefficient (without c.args.pivot.serial c.args.residual.now.terms) c.requires.nonzero below (AreTerms-filter _ _ ordered) in
     rw (c.in_ok-terms.ensures, c.deref.ensures.value, c.in_ok-others.ensures, c.terms.ensures.same) (simp to_z-of_z are)
 
 pub returns : goal.returns

@@ -14,7 +14,7 @@ returns-in_err-add_line-clause-err g c =
     (file_items c.args.bytes.now) (lines_items (c.lines.number + 1) (lines c.lines.rest.now)) (line_items line)
     (LineEnd number ∷ lines_items (number + 1) (lines rest))
     c.lines.invariant
-    (lines_items-first c.lines.number number c.lines.rest.now line rest c.in_ok-number.ensures c.split_line.ensures.lines)
+    (lines_items-first c.lines.number number c.lines.rest.now line rest c.in_ok-number.ensures.next c.split_line.ensures.lines)
     c.in_err-add_line.ensures.err in
     search rules
 
@@ -25,10 +25,10 @@ returns-in_err-push-clause-err g c =
     let rest = c.split_line.result.1.now in
     let left = LineEnd number ∷ lines_items (number + 1) (lines rest) in
     let reading =
-    Reading-more g.M.FreshMeaning.first c.args.names.now c.lines.names c.add_line.new.names [] c.lines.tokens c.add_line.new.tokens
+    Reading-more c.numbers_are_for_good.ensures.given c.numbers_are_for_good.ensures.for_good g.M.FreshMeaning.first c.args.names.now c.lines.names c.add_line.new.names [] c.lines.tokens c.add_line.new.tokens
     (file_items c.args.bytes.now) (lines_items (c.lines.number + 1) (lines c.lines.rest.now)) (line_items line) left
     c.lines.invariant
-    (lines_items-first c.lines.number number c.lines.rest.now line rest c.in_ok-number.ensures c.split_line.ensures.lines)
+    (lines_items-first c.lines.number number c.lines.rest.now line rest c.in_ok-number.ensures.next c.split_line.ensures.lines)
     c.in_ok-add_line.ensures.ok in
     let some =
     GainsSome-more g.M.FreshMeaning.first c.args.names.now c.add_line.new.names c.add_line.new.names [] c.add_line.new.tokens
@@ -43,12 +43,12 @@ lines-preserved g c =
     let rest = c.split_line.result.1.now in
     let left = LineEnd number ∷ lines_items (number + 1) (lines rest) in
     let reading =
-    Reading-more g.M.FreshMeaning.first c.args.names.now c.lines.names c.add_line.new.names [] c.lines.tokens c.add_line.new.tokens
+    Reading-more c.numbers_are_for_good.ensures.given c.numbers_are_for_good.ensures.for_good g.M.FreshMeaning.first c.args.names.now c.lines.names c.add_line.new.names [] c.lines.tokens c.add_line.new.tokens
     (file_items c.args.bytes.now) (lines_items (c.lines.number + 1) (lines c.lines.rest.now)) (line_items line) left
     c.lines.invariant
-    (lines_items-first c.lines.number number c.lines.rest.now line rest c.in_ok-number.ensures c.split_line.ensures.lines)
+    (lines_items-first c.lines.number number c.lines.rest.now line rest c.in_ok-number.ensures.next c.split_line.ensures.lines)
     c.in_ok-add_line.ensures.ok in
-    Reading-more g.M.FreshMeaning.first c.args.names.now c.add_line.new.names c.add_line.new.names [] c.add_line.new.tokens c.push.new.self
+    Reading-more c.numbers_are_for_good.ensures.given c.numbers_are_for_good.ensures.for_good g.M.FreshMeaning.first c.args.names.now c.add_line.new.names c.add_line.new.names [] c.add_line.new.tokens c.push.new.self
     (file_items c.args.bytes.now) left (LineEnd number ∷ []) (lines_items (number + 1) (lines rest)) reading refl
     (Took-line_end g.M.FreshMeaning.first c.add_line.new.names c.add_line.new.tokens c.push.new.self number c.in_ok-push.ensures.ok)
 
@@ -64,4 +64,4 @@ returns-clause-length g c =
 pub returns-clause-symbols : goal.returns-clause-symbols
 returns-clause-symbols g c =
     let reading = c.lines.invariant in
-    AllNumbered g.M.FreshMeaning.first c.args.names.now c.lines.names c.lines.tokens reading.done reading.took.names reading.took.tokens
+    AllNumbered c.numbers_are_for_good.ensures.given c.numbers_are_for_good.ensures.for_good g.M.FreshMeaning.first c.args.names.now c.lines.names c.lines.tokens reading.done reading.took.names reading.took.tokens

@@ -13,7 +13,7 @@ took g c =
 
 pub returns-clause-symbols : goal.returns-clause-symbols
 returns-clause-symbols g c =
-    AllNumbered g.M.FreshMeaning.first c.args.names.now c.add_line.new.names c.add_line.new.tokens (line_items c.args.bytes.now) (took g c).names (took g c).tokens
+    AllNumbered c.numbers_are_for_good.ensures.given c.numbers_are_for_good.ensures.for_good g.M.FreshMeaning.first c.args.names.now c.add_line.new.names c.add_line.new.tokens (line_items c.args.bytes.now) (took g c).names (took g c).tokens
 
 pub returns-clause-length : goal.returns-clause-length
 returns-clause-length g c =

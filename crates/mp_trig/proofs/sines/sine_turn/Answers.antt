@@ -1,7 +1,7 @@
 use Rattle.std.proofs.Common.{◌≡◌, ◌+◌, ◌^◌, ◌≤◌, pos, ◌+ℤ◌, ◌-ℤ◌, int_div, w64, arith}
 use Rattle.std.proofs.lemmas.Int.{ints, to_z-of_z}
 use mir.Val.{to_z, of_z}
-use Rattle.mp_trig.specs.Sines.{reach}
+use Rattle.mp_trig.specs.Sines.{bound_after}
 use Rattle.mp_trig.proofs.SineLemmas.{reach_small, within_turned, within_kept, quotient_le, turn_taken}
 use Rattle.mp_trig.proofs.sines.sine_turn.Goals as goal
 
@@ -13,13 +13,13 @@ part-of-x c = rw (to_z-of_z w64 c.args.x c.ranges.x) at c.over_power-then-left-e
 
 x-is : (c : goal.After-over_power-then-left-entry) → to_z w64 (of_z w64 (to_z w64 (of_z w64 c.args.x) +ℤ to_z w64 (of_z w64 c.over_power.result))) ≡ c.args.x +ℤ int_div c.args.y (pos (2 ^ (c.args.n + 1)))
 x-is c =
-    let small : reach c.args.n ≤ 715827882 = reach_small c.args.n (omega arith) in
+    let small : bound_after c.args.n ≤ 715827882 = reach_small c.args.n (omega arith) in
     let near = c.requires.near in
     omega (arith, ints, part-of-y c, quotient_le c.args.y (2 ^ (c.args.n + 1)), near.near_x, near.near_y)
 
 y-is : (c : goal.After-over_power-then-left-entry) → to_z w64 (of_z w64 (to_z w64 (of_z w64 c.args.y) -ℤ to_z w64 (of_z w64 c.over_power-then-left-entry.result))) ≡ c.args.y -ℤ int_div c.args.x (pos (2 ^ (c.args.n + 1)))
 y-is c =
-    let small : reach c.args.n ≤ 715827882 = reach_small c.args.n (omega arith) in
+    let small : bound_after c.args.n ≤ 715827882 = reach_small c.args.n (omega arith) in
     let near = c.requires.near in
     omega (arith, ints, part-of-x c, quotient_le c.args.x (2 ^ (c.args.n + 1)), near.near_x, near.near_y)
 

@@ -1,5 +1,5 @@
 use Rattle.std.proofs.Common.{◌≡◌, ℕ, ◌||◌, map, take}
-use Rattle.mp_vartree.specs.Gathered.{has}
+use Rattle.mp_vartree.specs.Layout.Gathered.{has}
 use Rattle.mp_vartree.proofs.serials.add_made.Given as goal
 
 abbrev pub invariant-terms : goal.invariant-terms

@@ -5,5 +5,5 @@ use Rattle.mp_acts.proofs.state.State.declare_root.Goals as goal
 pub invariant_of-self-in-Ok : goal.invariant_of-self-in-Ok
 invariant_of-self-in-Ok c =
     with_variables c.self.invariant
-    (declare_within (length c.self.inside.system.states) c.self.inside.variables c.self.invariant.within.held c.variables_are_a_map.ensures.takes c.args.root c.args.name.now c.args.kind
+    (declare_within (length c.self.inside.system.unknowns.states) c.self.inside.variables c.self.invariant.within.held c.variables_are_a_map.ensures.takes c.args.root c.args.name.now c.args.kind
     c.in_ok-declare.field-0 c.declare.new.self c.in_ok-declare.ensures.exact)

@@ -5,7 +5,7 @@ use Rattle.mp_acts.proofs.state.State.forget_root.Goals as goal
 
 pub invariant_of-self : goal.invariant_of-self
 invariant_of-self c =
-    let n = length c.self.inside.system.states in
+    let n = length c.self.inside.system.unknowns.states in
     with_variables c.self.invariant
     (subst (λ (v : Variables). HoldWithin n v) (sym c.forget.ensures)
     (forget_within n c.self.inside.variables c.self.invariant.within.held c.variables_are_a_map.ensures.takes c.args.root))

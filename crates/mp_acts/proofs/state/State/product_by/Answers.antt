@@ -1,18 +1,18 @@
-use Rattle.std.proofs.Common.{◌≡◌, ◌<◌, ◌≤◌, ℕ, List, [], ◌∷◌, length, refl, SFits, w32, arith, rules, tests}
+use Rattle.std.proofs.Common.{◌≡◌, ◌<◌, List, [], ◌∷◌, length, refl, SFits, w32, arith, rules}
 use Rattle.std.proofs.lemmas.Int.{to_z-of_z}
 use Rattle.std.proofs.lemmas.Bool.Decides.{nat_tests}
 use Rattle.mp_pool.specs.declared.Term.{Term}
-use Rattle.mp_forms.specs.Forms.{LinearForm, product_of}
+use Rattle.mp_forms.specs.Forms.{LinearForm, form_times_scaled}
 use Rattle.mp_acts.specs.Operands.{or_refused}
 use Rattle.mp_acts.specs.Arithmetic.{product_by}
 use Rattle.mp_acts.proofs.state.State.product_by.Goals as goal
 
 -- the right factor is known, or else the left one
-right_known : (p q : LinearForm) (ts us : List Term) → length us ≡ 0 → product_by p q ts us ≡ or_refused (product_of q.constant p)
+right_known : (p q : LinearForm) (ts us : List Term) → length us ≡ 0 → product_by p q ts us ≡ or_refused (form_times_scaled q.constant p)
 right_known p q ts [] e = refl
 right_known p q ts (u ∷ us) e = absurd (omega (arith, e))
 
-left_known : (p q : LinearForm) (ts us : List Term) → length ts ≡ 0 → 0 < length us → product_by p q ts us ≡ or_refused (product_of p.constant q)
+left_known : (p q : LinearForm) (ts us : List Term) → length ts ≡ 0 → 0 < length us → product_by p q ts us ≡ or_refused (form_times_scaled p.constant q)
 left_known p q [] [] e more = absurd (omega (arith, more))
 left_known p q [] (u ∷ us) e more = refl
 left_known p q (t ∷ ts) us e more = absurd (omega (arith, e))

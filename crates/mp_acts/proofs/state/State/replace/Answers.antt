@@ -5,7 +5,7 @@ use Rattle.mp_acts.proofs.state.State.replace.Goals as goal
 
 pub invariant_of-self-in-Ok : goal.invariant_of-self-in-Ok
 invariant_of-self-in-Ok c =
-    let n = length c.self.inside.system.states in
+    let n = length c.self.inside.system.unknowns.states in
     let reaches : reach c.args.value ≤ n = rw (← c.self.view_is) at c.requires.within in
     with_variables c.self.invariant
     (store_within n c.self.inside.variables c.self.invariant.within.held c.variables_are_a_map.ensures.puts false c.args.root c.args.name.now c.args.value c.in_ok-store.field-0 c.store.new.self

@@ -1,6 +1,6 @@
 use Rattle.std.proofs.Common.{rules, SFits, w32}
 use Rattle.std.proofs.lemmas.Int.{to_z-of_z}
-use Rattle.mp_forms.specs.Forms.{product_of}
+use Rattle.mp_forms.specs.Forms.{form_times_scaled}
 use Rattle.mp_acts.specs.State.{unknown_count}
 use Rattle.mp_acts.proofs.ReachLemmas.{ok_within, product_within}
 use Rattle.mp_acts.proofs.state.State.times.Goals as goal
@@ -10,4 +10,4 @@ returns-clause-within c =
     let n = unknown_count c.args.self.now in
     let fits : SFits w32 c.args.factor = search rules in
     let exact = simp to_z-of_z at c.in_ok-scale_by.ensures.exact in
-    ok_within n _ (product_of c.args.factor c.args.form.now) c.in_ok-branch.field-0 c.in_ok-branch.was exact (product_within n c.args.factor c.args.form.now c.requires)
+    ok_within n _ (form_times_scaled c.args.factor c.args.form.now) c.in_ok-branch.field-0 c.in_ok-branch.was exact (product_within n c.args.factor c.args.form.now c.requires)

@@ -5,4 +5,4 @@ use Rattle.mp_acts.proofs.state.State.unknowns_are_replays.Goals as goal
 
 pub returns-clause-equations : goal.returns-clause-equations
 returns-clause-equations c =
-    rw (← c.self.view_is) (equations_counted c.systems_are_replays.ensures.counted (map event_of c.self.inside.events.items) c.self.inside.system c.self.invariant.history)
+    rw (← c.self.view_is) (equations_counted c.systems_are_replays.ensures.equations (map event_of c.self.inside.events.items) c.self.inside.system.unknowns c.self.invariant.history)

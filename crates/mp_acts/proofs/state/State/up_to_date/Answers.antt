@@ -4,11 +4,11 @@ use Rattle.mp_acts.proofs.ReachLemmas.{is_over, ok_within, reduce_within}
 use Rattle.mp_acts.proofs.state.State.up_to_date.Goals as goal
 
 pub reduce-requires : goal.reduce-requires
-reduce-requires c = is_over c.self.inside.system.states c.args.form.now c.self.invariant.within.few (rw (← c.self.view_is) at c.requires)
+reduce-requires c = is_over c.self.inside.system.unknowns.states c.args.form.now c.self.invariant.within.few (rw (← c.self.view_is) at c.requires)
 
 pub returns-clause-within : goal.returns-clause-within
 returns-clause-within c =
-    let states = c.self.inside.system.states in
+    let states = c.self.inside.system.unknowns.states in
     rw (← c.self.view_is)
     (ok_within (length states) _ (reduce_of states c.args.form.now) c.in_ok-branch.field-0 c.in_ok-branch.was c.in_ok-reduce.ensures.exact
     (reduce_within states (length states) c.args.form.now c.self.invariant.within.forms (rw (← c.self.view_is) at c.requires)))

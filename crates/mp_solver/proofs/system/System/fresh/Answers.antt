@@ -1,5 +1,5 @@
 use Rattle.std.proofs.Common.{arith}
-use Rattle.mp_solver.proofs.PlaceLemmas.{IsIndexed-with_fresh}
+use Rattle.mp_solver.proofs.RowLemmas.{IsIndexed-with_fresh}
 use Rattle.mp_solver.proofs.system.System.fresh.Goals as goal
 
 pub invariant_of-self-2 : goal.invariant_of-self-2

@@ -3,5 +3,5 @@ use Rattle.mp_solver.specs.Elimination.{solved_for}
 use Rattle.mp_solver.proofs.VisitLemmas.{IsVisit}
 use Rattle.mp_solver.proofs.system.System.substituted.Given as goal
 
-abbrev pub invariant-places : goal.invariant-places
-invariant-places l = IsVisit l.self.states l.pivot.serial (solved_for l.pivot l.residual) (drop l.place-index l.place-items) l.changes.items l.overflows l.kept l.made
+abbrev pub invariant-rows : goal.invariant-rows
+invariant-rows l = IsVisit l.self.unknowns.states l.pivot.serial (solved_for l.pivot l.residual) (drop l.row-index l.row-items) l.tally.changes.items l.tally.overflows l.tally.unchanged l.tally.added

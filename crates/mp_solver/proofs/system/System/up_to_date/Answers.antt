@@ -16,7 +16,7 @@ pub returns-in-Err : goal.returns-in-Err
 returns-in-Err c =
     let terms = c.terms-terms.result.now in
     let i = c.terms.term-index in
-    let states = c.args.self.now.states in
+    let states = c.args.self.now.unknowns.states in
     let within : i < length terms = omega arith in
     let small = c.terms-terms.ensures.ordered.coefficients i none within in
     let fits : FitsSigned w64 (get_or terms i none).coefficient = search rules in
@@ -29,7 +29,7 @@ pub terms-preserved : goal.terms-preserved
 terms-preserved c =
     let terms = c.terms-terms.result.now in
     let i = c.terms.term-index in
-    let states = c.args.self.now.states in
+    let states = c.args.self.now.unknowns.states in
     let within : i < length terms = omega arith in
     let small = c.terms-terms.ensures.ordered.coefficients i none within in
     let fits : FitsSigned w64 (get_or terms i none).coefficient = search rules in

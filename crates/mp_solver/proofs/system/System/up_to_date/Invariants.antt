@@ -5,4 +5,4 @@ use Rattle.mp_solver.proofs.system.System.up_to_date.Given as goal
 
 abbrev pub invariant-terms : goal.invariant-terms
 invariant-terms l =
-    fold (with_term_of l.self.states) (Ok (independent_part l.self.states l.form)) (take l.term-index l.terms) ≡ Ok l.sum
+    fold (with_term_of l.self.unknowns.states) (Ok (independent_part l.self.unknowns.states l.form)) (take l.term-index l.terms) ≡ Ok l.sum

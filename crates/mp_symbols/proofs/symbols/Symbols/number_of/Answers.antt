@@ -1,7 +1,7 @@
 use Rattle.std.proofs.Common.{Vec, Global, ℕ, Some, sym, ◌∙◌, ap, ◌≤◌, reverse, arith, Bool, true, false, if◌then◌else◌, is_some}
 use Rattle.indexmap.specs.IndexMap.{index_map_len}
-use Rattle.mp_symbols.proofs.NameLemmas.{number_in-within, names_of, number_in-names_of, with_name-present, Adds, Adds-insert}
-use Rattle.mp_symbols.proofs.TableLemmas.{is_kept-more}
+use Rattle.mp_symbols.proofs.NameLemmas.{number_in-within, names_of, number_in-names_of, number_in-not, with_name-present, Adds, Adds-insert}
+use Rattle.mp_symbols.proofs.TableLemmas.{is_sound-more}
 use Rattle.mp_symbols.proofs.symbols.Symbols.number_of.Goals as goal
 
 pub returns-in-Some-clause-number : goal.returns-in-Some-clause-number
@@ -33,7 +33,7 @@ invariant_of-self-2 g c =
     let more = at_most_one (is_some c.in_ok-insert.field-0) in (
       c.in_ok-insert.ensures.unique,
       omega (arith, c.in_ok-insert.ensures.len),
-      is_kept-more (index_map_len c.self.inside.entries) _ _ _ (reverse c.self.inside.saved.items) (omega (arith, c.in_ok-insert.ensures.len)) (omega arith) c.self.invariant.2,
+      is_sound-more (index_map_len c.self.inside.entries) _ _ _ (reverse c.self.inside.saved.items) (omega (arith, c.in_ok-insert.ensures.len)) (omega arith) c.self.invariant.2,
     )
 
 pub returns-clause-table : goal.returns-clause-table
@@ -43,3 +43,15 @@ returns-clause-table g c =
 
 pub returns-clause-within : goal.returns-clause-within
 returns-clause-within g c = number_in-within _ c.args.name.now c.args.fresh _ (returns-clause-number g c)
+
+pub returns-in_err-symbol-clause-present : goal.returns-in_err-symbol-clause-present
+returns-in_err-symbol-clause-present g c =
+    rw (← c.self.view_is) (λ there. absurd (number_in-not (λ (k : Vec ℕ Global). k.items) c.args.name.now c.self.inside.entries.entries c.in_default.ensures.index there))
+
+pub returns-in_err-name-clause-present : goal.returns-in_err-name-clause-present
+returns-in_err-name-clause-present g c =
+    rw (← c.self.view_is) (λ there. absurd (number_in-not (λ (k : Vec ℕ Global). k.items) c.args.name.now c.self.inside.entries.entries c.in_default.ensures.index there))
+
+pub returns-in_err-insert-clause-present : goal.returns-in_err-insert-clause-present
+returns-in_err-insert-clause-present g c =
+    rw (← c.self.view_is) (λ there. absurd (number_in-not (λ (k : Vec ℕ Global). k.items) c.args.name.now c.self.inside.entries.entries c.in_default.ensures.index there))

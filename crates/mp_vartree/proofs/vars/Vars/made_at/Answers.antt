@@ -1,7 +1,7 @@
 use Rattle.std.proofs.Common.{◌≡◌, ℕ, ◌||◌, ap, sym, ◌∙◌}
 use Rattle.std.specs.Option.{option_map}
 use Rattle.std.proofs.lemmas.Result.{IfOk-weaker}
-use Rattle.mp_vartree.specs.Gathered.{has}
+use Rattle.mp_vartree.specs.Layout.Gathered.{has}
 use Rattle.mp_vartree.specs.Variables.{made_for, made_for_one, variable_at}
 use Rattle.mp_vartree.proofs.MadeLemmas.{made_one}
 use Rattle.mp_vartree.proofs.vars.Vars.made_at.Goals as goal

@@ -1,5 +1,5 @@
 use Rattle.std.specs.FinMap.{entries_sorted}
-use Rattle.mp_vartree.specs.Tags.{declarations_in, variables_in}
+use Rattle.mp_vartree.specs.Layout.Tags.{declarations_in, variables_in}
 use Rattle.mp_vartree.proofs.MadeLemmas.{T_is}
 use Rattle.mp_vartree.proofs.vars.Vars.stand_once.Goals as goal
 

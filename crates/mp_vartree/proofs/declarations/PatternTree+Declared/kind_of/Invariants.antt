@@ -1,7 +1,0 @@
-use Rattle.std.proofs.Common.{◌≡◌, drop}
-use Rattle.std.specs.FinMap.{get}
-use Rattle.mp_vartree.specs.Names.{pattern_of}
-use Rattle.mp_vartree.proofs.declarations.PatternTree+Declared.kind_of.Given as goal
-
-abbrev pub invariant-walk : goal.invariant-walk
-invariant-walk l = get l.node.paths (pattern_of (drop l.part-index l.name)) ≡ get l.fn.self.paths (pattern_of l.fn.name)

@@ -1,5 +1,0 @@
-use Rattle.std.proofs.Common.{length}
-use Rattle.mp_vartree.proofs.name_tree.NameTree.+insert.Given as goal
-
-abbrev pub decreases-insert : goal.decreases-insert
-decreases-insert g l = length l.name.now
