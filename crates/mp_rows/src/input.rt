@@ -1,6 +1,6 @@
 ghost use Rattle.mp_values.specs.Ends.{IsNoEnd};
 
-use mp_input::{Input, NoLoop};
+use mp_input::{Input, NoLoop, a_second_mark_changes_nothing};
 use mp_report::Place;
 use mp_scaled::{Listing, Shared};
 use mp_tokens::{Token, Tokens};
@@ -287,5 +287,11 @@ fn many_marks_on_one_line(rt: HostRuntime) -> Result<(), Fail> {
         assert!(rt; takes(&mut input, b"x")?);
     }
     assert!(rt; takes(&mut input, b"/.#")?);
+    Ok(())
+}
+
+#[test]
+fn laws(_rt: HostRuntime) -> Result<(), Fail> {
+    a_second_mark_changes_nothing();
     Ok(())
 }
