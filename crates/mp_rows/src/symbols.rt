@@ -1,3 +1,5 @@
+//! Rows of `mp_symbols`: groups, and names that keep their numbers.
+
 ghost use Rattle.std.specs.Prelude.{◌≡◌, ◌<◌, length, OnOk};
 
 use mp_symbols::{Closed, Symbols, groups_give_back, numbers_are_for_good};

@@ -1,3 +1,5 @@
+//! Rows of the public calls.
+
 ghost use Rattle.std.specs.Prelude.{All, IsTrue};
 ghost use Rattle.std.specs.Char.{IsAsciiDigit};
 ghost use Rattle.mp_scaled.specs.Decimal.{whole_digits, fraction_digits};

@@ -1,7 +1,8 @@
 -- The angle of a direction, by turns whose tangents are powers of 1/2.
 -- After Knuth, METAFONT: The Program, part 8 (algebraic and transcendental functions). Every constant is this project's choice.
-use Rattle.std.specs.Prelude.{ℕ, zero, suc, ◌+◌, ◌-◌, ◌*◌, ◌/◌, ◌^◌, ℤ, pos, neg_ℤ, ◌-ℤ◌, int_lt, unsigned_abs, nat_eq, nat_lt, Bool, true, false, ◌&&◌, cond, Result, Ok, Err}
+use Rattle.std.specs.Prelude.{ℕ, zero, suc, ◌+◌, ◌-◌, ◌*◌, ◌/◌, ◌^◌, ℤ, pos, neg_ℤ, ◌+ℤ◌, ◌-ℤ◌, int_lt, unsigned_abs, nat_eq, nat_lt, Bool, true, false, ◌&&◌, cond, Result, Ok, Err}
 use Rattle.mp_trig.specs.Sines.{angle_entry}
+use Rattle.mp_trig.specs.declared.directions.TheConstants.{QUARTER, HALF}
 use Rattle.mp_trig.specs.declared.fault.TrigFault.{TrigFault}
 use Rattle.mp_trig.specs.declared.fault.TrigFault.TheVariants.{OutOfDomain}
 
@@ -73,12 +74,12 @@ slope_angle legs = cond (nat_eq legs.short 0) 0 (angle_sum (grown (shrunk legs))
 -- the same in the octant where x is negative, y is negative, and y has the greater magnitude
 abbrev pub octant_angle : Bool → Bool → Bool → ℕ → ℤ
 octant_angle false false false angle = pos angle
-octant_angle false false true angle = pos 94371840 -ℤ pos angle
-octant_angle true false true angle = pos (94371840 + angle)
-octant_angle true false false angle = pos 188743680 -ℤ pos angle
-octant_angle true true false angle = pos angle -ℤ pos 188743680
-octant_angle true true true angle = neg_ℤ (pos (94371840 + angle))
-octant_angle false true true angle = pos angle -ℤ pos 94371840
+octant_angle false false true angle = QUARTER -ℤ pos angle
+octant_angle true false true angle = QUARTER +ℤ pos angle
+octant_angle true false false angle = HALF -ℤ pos angle
+octant_angle true true false angle = pos angle -ℤ HALF
+octant_angle true true true angle = neg_ℤ (QUARTER +ℤ pos angle)
+octant_angle false true true angle = pos angle -ℤ QUARTER
 octant_angle false true false angle = neg_ℤ (pos angle)
 
 -- the angle from the first axis to a direction, in units of 2^-20 degree

@@ -1,7 +1,8 @@
 -- Natural logarithms of scaled numbers, and exponentials, by products with numbers 1 - 2^-k.
 -- After Knuth, METAFONT: The Program, part 8 (algebraic and transcendental functions). Every constant is this project's choice.
-use Rattle.std.specs.Prelude.{ℕ, zero, suc, ◌+◌, ◌-◌, ◌*◌, ◌/◌, ◌%◌, ◌^◌, ℤ, pos, neg_ℤ, ◌+ℤ◌, ◌-ℤ◌, int_lt, int_le, int_div, unsigned_abs, nat_lt, true, false, cond, List, [], ◌∷◌, slice_index, Result, Ok, Err}
+use Rattle.std.specs.Prelude.{ℕ, zero, suc, ◌+◌, ◌-◌, ◌*◌, ◌/◌, ◌%◌, ◌^◌, ℤ, pos, ◌+ℤ◌, ◌-ℤ◌, int_lt, int_le, int_div, unsigned_abs, nat_lt, true, false, cond, List, [], ◌∷◌, slice_index, Result, Ok, Err}
 use Rattle.mp_trig.specs.declared.fault.TrigFault.{TrigFault}
+use Rattle.mp_trig.specs.declared.logs.TheConstants.{FOUR, SMALLEST, LARGEST, LARGEST_FINE}
 use Rattle.mp_trig.specs.declared.fault.TrigFault.TheVariants.{OutOfDomain, Overflow}
 
 -- the logarithms of 1 / (1 - 2^-k), for k from 1 to 28, in units of 2^-27
@@ -18,7 +19,7 @@ log_entry k = slice_index logarithms (k - 1)
 unfoldable pub doublings_within : ℕ → ℕ → ℕ
 doublings_within zero x = 0
 doublings_within (suc turns) x =
-    elim (nat_lt x 1073741824) [ true ↦ suc (doublings_within turns (x * 2)) | false ↦ 0 ]
+    elim (nat_lt x FOUR) [ true ↦ suc (doublings_within turns (x * 2)) | false ↦ 0 ]
 
 abbrev pub doublings : ℕ → ℕ
 doublings x = doublings_within 30 x
@@ -35,7 +36,7 @@ part x k = (x - 1) / 2 ^ k + 1
 unfoldable pub fitting_within : ℕ → ℕ → ℕ → ℕ
 fitting_within zero x k = k
 fitting_within (suc turns) x k =
-    elim (nat_lt x (1073741824 + part x k)) [ true ↦ fitting_within turns x (k + 1) | false ↦ k ]
+    elim (nat_lt x (FOUR + part x k)) [ true ↦ fitting_within turns x (k + 1) | false ↦ k ]
 
 abbrev pub fitting : ℕ → ℕ → ℕ
 fitting x k = fitting_within 28 x k
@@ -53,11 +54,11 @@ log_turn s = let k = fitting s.left s.power in
 -- turns until no more than 4 is left above 2^30; each turn lowers the number
 unfoldable pub log_within : ℕ → Logarithm → Logarithm
 log_within zero s = s
-log_within (suc turns) s = elim (nat_lt 1073741828 s.left) [ true ↦ log_within turns (log_turn s) | false ↦ s ]
+log_within (suc turns) s = elim (nat_lt (FOUR + 4) s.left) [ true ↦ log_within turns (log_turn s) | false ↦ s ]
 
 -- as many turns as the number is above 2^30 are enough
 abbrev pub log_rest : Logarithm → Logarithm
-log_rest s = log_within (s.left - 1073741824) s
+log_rest s = log_within (s.left - FOUR) s
 
 abbrev pub log_sum : ℕ → ℤ → ℤ
 log_sum x start = (log_rest (record { left = x; sum = start; power = 2 })).sum
@@ -98,16 +99,16 @@ exp_after (suc n) s = exp_turn n (exp_after n s)
 abbrev pub exp_start : ℤ → Exponential
 exp_start x =
     cond (int_le x (pos 0)) (record { left = 8 * unsigned_abs x; value = pos 1048576 })
-    (cond (int_le x (pos 127919879)) (record { left = 1023359037 - 8 * unsigned_abs x; value = pos 2147483647 })
-    (record { left = 8 * (174436200 - unsigned_abs x); value = pos 2147483647 }))
+    (cond (int_le x LARGEST_FINE) (record { left = 1023359037 - 8 * unsigned_abs x; value = pos 2147483647 })
+    (record { left = 8 * (unsigned_abs LARGEST - unsigned_abs x); value = pos 2147483647 }))
 
 -- what is left after all 28 entries, as a scaled number
 abbrev pub exponential : ℤ → ℤ
 exponential x = let value = (exp_after 28 (exp_start x)).value in
-    cond (int_le x (pos 127919879)) (int_div (value +ℤ pos 8) (pos 16)) value
+    cond (int_le x LARGEST_FINE) (int_div (value +ℤ pos 8) (pos 16)) value
 
 -- the exponential of a 256th of a scaled number, as a scaled number
 abbrev pub mexp_of : ℤ → Result ℤ TrigFault
 mexp_of x =
-    cond (int_lt (pos 174436200) x) (Err Overflow)
-    (cond (int_lt x (neg_ℤ (pos 197694359))) (Ok (pos 0)) (Ok (exponential x)))
+    cond (int_lt LARGEST x) (Err Overflow)
+    (cond (int_lt x SMALLEST) (Ok (pos 0)) (Ok (exponential x)))

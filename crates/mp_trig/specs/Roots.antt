@@ -1,5 +1,6 @@
 -- Square roots and Pythagorean sums: the whole number that is nearest to the root.
-use Rattle.std.specs.Prelude.{ℕ, zero, suc, ◌+◌, ◌-◌, ◌*◌, ◌/◌, ◌^◌, ◌<◌, ◌≤◌, ℤ, pos, int_lt, unsigned_abs, nat_eq, nat_lt, nat_le, true, false, cond, Result, Ok, Err}
+use Rattle.std.specs.Prelude.{ℕ, zero, suc, ◌+◌, ◌-◌, ◌*◌, ◌/◌, ◌<◌, ◌≤◌, ℤ, pos, int_lt, unsigned_abs, nat_eq, nat_lt, nat_le, true, false, cond, Result, Ok, Err}
+use Rattle.mp_scaled.specs.declared.units.TheConstants.{SCALED_ONE, MAGNITUDE_LIMIT}
 use Rattle.mp_trig.specs.declared.fault.TrigFault.{TrigFault}
 use Rattle.mp_trig.specs.declared.fault.TrigFault.TheVariants.{OutOfDomain, Overflow}
 
@@ -26,13 +27,13 @@ nearest_root n = (whole_root_within (4 * n) (4 * n) + 1) / 2
 abbrev pub square : ℤ → ℕ
 square a = unsigned_abs a * unsigned_abs a
 
--- a root, where it is below 2^31
+-- a root, where it is below the limit
 abbrev pub root_in_range : ℕ → Result ℤ TrigFault
-root_in_range root = cond (nat_lt root (2 ^ 31)) (Ok (pos root)) (Err Overflow)
+root_in_range root = cond (nat_lt root MAGNITUDE_LIMIT) (Ok (pos root)) (Err Overflow)
 
 -- the root of a scaled number
 abbrev pub square_root_of : ℤ → Result ℤ TrigFault
-square_root_of x = cond (int_lt x (pos 0)) (Err OutOfDomain) (Ok (pos (nearest_root (65536 * unsigned_abs x))))
+square_root_of x = cond (int_lt x (pos 0)) (Err OutOfDomain) (Ok (pos (nearest_root (SCALED_ONE * unsigned_abs x))))
 
 -- the root of a^2 + b^2
 abbrev pub pyth_add_of : ℤ → ℤ → Result ℤ TrigFault

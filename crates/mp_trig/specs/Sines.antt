@@ -3,7 +3,9 @@
 use Rattle.std.specs.Prelude.{ℕ, zero, suc, ◌+◌, ◌-◌, ◌/◌, ◌%◌, ◌^◌, ◌≤◌, ℤ, pos, neg_ℤ, ◌+ℤ◌, ◌-ℤ◌, ◌*ℤ◌, ◌≤ℤ◌, int_lt, int_div, unsigned_abs, nat_eq, nat_le, cond, List, [], ◌∷◌, slice_index}
 use Rattle.std.specs.Int.{int_rem_euclid}
 use Rattle.mp_scaled.specs.Round.{round}
+use Rattle.mp_scaled.specs.declared.units.TheConstants.{FRACTION_ONE}
 use Rattle.mp_trig.specs.Roots.{nearest_root, square}
+use Rattle.mp_trig.specs.declared.sines.TheConstants.{TURN, OCTANT}
 
 -- the angles whose tangents are 2^-k, for k from 1 to 26, in units of 2^-20 degree
 abbrev pub arctangents : List ℕ
@@ -38,12 +40,12 @@ sine_after (suc n) s = sine_turn n (sine_after n s)
 
 -- how far a coordinate can be from 0 after so many turns
 unfoldable pub bound_after : ℕ → ℕ
-bound_after zero = 268435456
+bound_after zero = FRACTION_ONE
 bound_after (suc n) = bound_after n + bound_after n / 2 ^ (n + 1)
 
 -- the point at 45 degrees, turned by the angle
 abbrev pub turned_by : ℕ → Turned
-turned_by angle = sine_after 26 (record { x = pos 268435456; y = pos 268435456; left = angle })
+turned_by angle = sine_after 26 (record { x = pos FRACTION_ONE; y = pos FRACTION_ONE; left = angle })
 
 pub record Point : Type 0 where
   pub x : ℤ
@@ -68,18 +70,18 @@ in_octant octant p =
 
 -- an angle brought into one turn of 360 degrees
 abbrev pub in_one_turn : ℤ → ℕ
-in_one_turn z = unsigned_abs (int_rem_euclid z (pos 377487360))
+in_one_turn z = unsigned_abs (int_rem_euclid z TURN)
 
 -- the angle between 45 degrees and the angle that stands in the first octant for one within a turn
 abbrev pub from_middle : ℕ → ℕ
 from_middle angle =
-    cond (nat_eq (angle / 47185920 % 2) 0) (47185920 - angle % 47185920) (angle % 47185920)
+    cond (nat_eq (angle / OCTANT % 2) 0) (OCTANT - angle % OCTANT) (angle % OCTANT)
 
 abbrev pub first_point : ℤ → Point
 first_point z = octant_point (from_middle (in_one_turn z))
 
 abbrev pub direction : ℤ → Point
-direction z = in_octant (in_one_turn z / 47185920) (first_point z)
+direction z = in_octant (in_one_turn z / OCTANT) (first_point z)
 
 -- how far the point is from the origin
 abbrev pub radius : ℤ → ℕ
@@ -87,10 +89,10 @@ radius z = let p = first_point z in nearest_root (square p.x + square p.y)
 
 -- the sine and the cosine of an angle, as fractions
 abbrev pub sine_of : ℤ → ℤ
-sine_of z = round ((direction z).y *ℤ pos 268435456) (pos (radius z))
+sine_of z = round ((direction z).y *ℤ pos FRACTION_ONE) (pos (radius z))
 
 abbrev pub cosine_of : ℤ → ℤ
-cosine_of z = round ((direction z).x *ℤ pos 268435456) (pos (radius z))
+cosine_of z = round ((direction z).x *ℤ pos FRACTION_ONE) (pos (radius z))
 
 -- the bounds that hold after n turns
 pub record IsBoundedAfter (n : ℕ) (x y : ℤ) : Type 0 where

@@ -2,6 +2,7 @@
 
 ghost use Rattle.std.specs.Prelude.{◌≡◌, ◌≢◌, ◌↔◌, ◌⊎◌, ℕ, suc, ◌≤◌, ◌<◌, ◌+◌, ◌-◌, ◌*◌, ◌/◌, ◌%◌, ◌^◌, pos, neg_ℤ, ◌+ℤ◌, ◌-ℤ◌, ◌<ℤ◌, ◌≤ℤ◌, int_div, unsigned_abs, IsErrOf};
 ghost use Rattle.mp_trig.specs.Logs.{log_entry, doublings, log_start, part, fitting, log_sum, mlog_of, lessened, lessened_times, Exponential, exp_turn, exp_after, exp_start, exponential, mexp_of};
+ghost use Rattle.mp_trig.specs.declared.logs.TheConstants.{SMALLEST, LARGEST};
 
 use crate::TrigFault;
 use crate::quotient::{over_power, power};
@@ -134,7 +135,7 @@ const LARGEST_FINE: i32 = 127919879;
 /// `Overflow` above 174436200 units.
 pub fn mexp(x: i32) -> Result<i32, TrigFault>
     ensures exact { result ≡ mexp_of x }
-    ensures overflow { IsErrOf result TrigFault.Overflow ↔ pos 174436200 <ℤ x }
+    ensures overflow { IsErrOf result TrigFault.Overflow ↔ LARGEST <ℤ x }
     ensures no_domain { result ≢ Err TrigFault.OutOfDomain }
 {
     if x > LARGEST {
@@ -147,8 +148,8 @@ pub fn mexp(x: i32) -> Result<i32, TrigFault>
 }
 
 fn exponential(x: i32) -> i64
-    requires low { neg_ℤ (pos 197694359) ≤ℤ x }
-    requires high { x ≤ℤ pos 174436200 }
+    requires low { SMALLEST ≤ℤ x }
+    requires high { x ≤ℤ LARGEST }
     ensures exact { result ≡ exponential x }
     ensures low { neg_ℤ (pos (2 ^ 31)) ≤ℤ result }
     ensures high { result <ℤ pos (2 ^ 31) }
@@ -174,8 +175,8 @@ fn sixteenth(value: i64) -> i64
 
 /// How far `x` is below 0 or below the logarithm of a great number, and that number.
 fn exp_start(x: i32) -> (u32, i64)
-    requires low { neg_ℤ (pos 197694359) ≤ℤ x }
-    requires high { x ≤ℤ pos 174436200 }
+    requires low { SMALLEST ≤ℤ x }
+    requires high { x ≤ℤ LARGEST }
     ensures exact { record { left = result.0; value = result.1 } ≡ exp_start x }
     ensures small { result.0 < 2 ^ 31 }
     ensures positive { pos 0 ≤ℤ result.1 }
@@ -187,7 +188,7 @@ fn exp_start(x: i32) -> (u32, i64)
     } else if x <= LARGEST_FINE {
         (1023359037 - 8 * magnitude, 2147483647)
     } else {
-        (8 * (174436200 - magnitude), 2147483647)
+        (8 * (LARGEST.unsigned_abs() - magnitude), 2147483647)
     }
 }
 

@@ -1,28 +1,30 @@
 //! Square roots and Pythagorean sums and differences, to the nearest unit.
 
 ghost use Rattle.std.specs.Prelude.{◌≡◌, ◌≢◌, ◌↔◌, ℕ, ◌≤◌, ◌<◌, ◌+◌, ◌-◌, ◌*◌, ◌^◌, pos, ◌<ℤ◌, ◌≤ℤ◌, unsigned_abs, IsErrOf, IfOk};
+ghost use Rattle.mp_scaled.specs.declared.units.TheConstants.{SCALED_ONE, MAGNITUDE_LIMIT};
 ghost use Rattle.mp_trig.specs.Roots.{IsNearestRoot, nearest_root, square, root_in_range, square_root_of, pyth_add_of, pyth_sub_of};
 
 use crate::TrigFault;
+use mp_scaled::{MAGNITUDE_LIMIT, SCALED_ONE};
 
 /// The square root of a scaled number, to the nearest unit; `OutOfDomain` for a negative one.
 pub fn square_root(x: i32) -> Result<i32, TrigFault>
     ensures exact { result ≡ square_root_of x }
-    ensures nearest { IfOk result (λ r. IsNearestRoot (65536 * unsigned_abs x) (unsigned_abs r)) }
+    ensures nearest { IfOk result (λ r. IsNearestRoot (SCALED_ONE * unsigned_abs x) (unsigned_abs r)) }
     ensures domain { IsErrOf result TrigFault.OutOfDomain ↔ x <ℤ pos 0 }
     ensures no_overflow { result ≢ Err TrigFault.Overflow }
 {
     if x < 0 {
         return Err(TrigFault::OutOfDomain);
     }
-    Ok(nearest(65536 * u64::from(x.unsigned_abs())) as i32)
+    Ok(nearest(u64::from(SCALED_ONE) * u64::from(x.unsigned_abs())) as i32)
 }
 
 /// The square root of `a^2 + b^2`, to the nearest unit of `a` and `b`.
 pub fn pyth_add(a: i32, b: i32) -> Result<i32, TrigFault>
     ensures exact { result ≡ pyth_add_of a b }
     ensures nearest { IfOk result (λ r. IsNearestRoot (square a + square b) (unsigned_abs r)) }
-    ensures overflow { IsErrOf result TrigFault.Overflow ↔ 2 ^ 31 ≤ nearest_root (square a + square b) }
+    ensures overflow { IsErrOf result TrigFault.Overflow ↔ MAGNITUDE_LIMIT ≤ nearest_root (square a + square b) }
     ensures no_domain { result ≢ Err TrigFault.OutOfDomain }
 {
     in_range(nearest(squared(a) + squared(b)))
@@ -35,7 +37,7 @@ pub fn pyth_sub(a: i32, b: i32) -> Result<i32, TrigFault>
     ensures nearest { IfOk result (λ r. IsNearestRoot (square a - square b) (unsigned_abs r)) }
     ensures domain { IsErrOf result TrigFault.OutOfDomain ↔ unsigned_abs a < unsigned_abs b }
     ensures overflow { IsErrOf result TrigFault.Overflow ↔
-        ((unsigned_abs b ≤ unsigned_abs a) × (2 ^ 31 ≤ nearest_root (square a - square b))) }
+        ((unsigned_abs b ≤ unsigned_abs a) × (MAGNITUDE_LIMIT ≤ nearest_root (square a - square b))) }
 {
     if a.unsigned_abs() < b.unsigned_abs() {
         return Err(TrigFault::OutOfDomain);
@@ -46,7 +48,7 @@ pub fn pyth_sub(a: i32, b: i32) -> Result<i32, TrigFault>
 fn in_range(root: u64) -> Result<i32, TrigFault>
     ensures { result ≡ root_in_range root }
 {
-    if root >= 1 << 31 {
+    if root >= u64::from(MAGNITUDE_LIMIT) {
         return Err(TrigFault::Overflow);
     }
     Ok(root as i32)

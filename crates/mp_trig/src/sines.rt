@@ -2,8 +2,10 @@
 
 ghost use Rattle.std.specs.Prelude.{◌≡◌, ◌≤◌, ◌<◌, ◌+◌, ◌*◌, ◌/◌, ◌%◌, max, pos, ◌*ℤ◌, ◌≤ℤ◌, ◌<ℤ◌, unsigned_abs};
 ghost use Rattle.mp_scaled.specs.Round.{round};
+ghost use Rattle.mp_scaled.specs.declared.units.TheConstants.{FRACTION_ONE};
 ghost use Rattle.mp_trig.specs.Roots.{nearest_root, square};
 ghost use Rattle.mp_trig.specs.Sines.{Turned, sine_turn, turned_by, octant_point, in_octant, in_one_turn, from_middle, first_point, direction, radius, sine_of, cosine_of, IsBoundedAfter};
+ghost use Rattle.mp_trig.specs.declared.sines.TheConstants.{TURN, OCTANT};
 
 use crate::quotient::over_power;
 use crate::roots::nearest;
@@ -20,8 +22,8 @@ const OCTANT: u32 = 45 << 20;
 pub fn sin_cos(z: i32) -> (i32, i32)
     ensures sine { result.0 ≡ sine_of z }
     ensures cosine { result.1 ≡ cosine_of z }
-    ensures small_sine { unsigned_abs result.0 ≤ 268435456 }
-    ensures small_cosine { unsigned_abs result.1 ≤ 268435456 }
+    ensures small_sine { unsigned_abs result.0 ≤ FRACTION_ONE }
+    ensures small_cosine { unsigned_abs result.1 ≤ FRACTION_ONE }
 {
     let angle = within_turn(z);
     let (x, y) = octant_point(from_middle(angle));
@@ -33,7 +35,7 @@ pub fn sin_cos(z: i32) -> (i32, i32)
 /// An angle brought into one turn of 360 degrees.
 fn within_turn(z: i32) -> u32
     ensures exact { result ≡ in_one_turn z }
-    ensures small { result < 377487360 }
+    ensures small { result < unsigned_abs TURN }
 {
     z.rem_euclid(TURN) as u32
 }
@@ -41,7 +43,7 @@ fn within_turn(z: i32) -> u32
 /// The angle between 45 degrees and the one that stands in the first octant for an angle.
 fn from_middle(angle: u32) -> u32
     ensures exact { result ≡ from_middle angle }
-    ensures small { result ≤ 47185920 }
+    ensures small { result ≤ OCTANT }
 {
     let rest = angle % OCTANT;
     if angle / OCTANT % 2 == 0 {
@@ -144,8 +146,8 @@ fn fraction(part: i64, radius: i64) -> i32
     requires positive { pos 0 <ℤ radius }
     requires small { radius <ℤ pos 2147483648 }
     requires within { unsigned_abs part ≤ unsigned_abs radius }
-    ensures exact { result ≡ round (part *ℤ pos 268435456) radius }
-    ensures within { unsigned_abs result ≤ 268435456 }
+    ensures exact { result ≡ round (part *ℤ pos FRACTION_ONE) radius }
+    ensures within { unsigned_abs result ≤ FRACTION_ONE }
 {
     match make_fraction(part, radius) {
         Ok(fraction) => fraction,
