@@ -75,6 +75,14 @@ fn is_macro(found: &Found, parts: usize) -> bool {
     }
 }
 
+/// The number of parts that name the macro on the way along a name.
+fn parts_of_macro(vars: &Vars, root: u32, name: Name) -> Option<usize> {
+    match vars.macro_of(root, name) {
+        Some((_, count)) => Some(count),
+        None => None,
+    }
+}
+
 /// Makes the call, and says whether it answered what it must.
 fn answers(alloc: Global, vars: &mut Vars, call: Call) -> Result<bool, Fail> {
     Ok(match call {
@@ -90,9 +98,12 @@ fn answers(alloc: Global, vars: &mut Vars, call: Call) -> Result<bool, Fail> {
             value_of(alloc, value)?,
         )? == if ok { Ok(()) } else { Err(WrongType) },
         Call::Value(root, name, constant) => is_value(&vars.find(alloc, root, name)?, constant),
-        Call::Macro(root, name, parts) => is_macro(&vars.find(alloc, root, name)?, parts),
+        Call::Macro(root, name, parts) => {
+            is_macro(&vars.find(alloc, root, name)?, parts)
+                && parts_of_macro(vars, root, name) == Some(parts)
+        }
         Call::Nothing(root, name) => match vars.find(alloc, root, name)? {
-            Found::Nothing => true,
+            Found::Nothing => parts_of_macro(vars, root, name).is_none(),
             _ => false,
         },
         Call::Type(root, name, kind) => vars.type_of(root, name) == kind,

@@ -1,6 +1,5 @@
 -- What a pattern takes away of a tree, and what is put into a group there.
-use Rattle.std.proofs.Common.{◌≡◌, Bool, true, false, cond, not, ◌&&◌, List, [], ◌∷◌, Option, Some, None, BTreeMap, refl, sym, ap, ◌∙◌}
-use Rattle.std.specs.Option.{option_and_then}
+use Rattle.std.proofs.Common.{◌≡◌, Bool, true, false, cond, not, List, [], ◌∷◌, Option, Some, None, BTreeMap, refl, sym, ap, ◌∙◌}
 use Rattle.std.specs.Ordering.{eq_by_cmp}
 use Rattle.std.specs.BTreeMap.{get_by}
 use Rattle.std.specs.FinMap.{FinMap, get, insert, empty, retain_keys, get-empty}
@@ -10,7 +9,7 @@ use Rattle.mp_vartree.specs.Layout.Groups.{covers, group_with, with_name}
 use Rattle.mp_vartree.specs.declared.names.Part.{Part}
 use Rattle.mp_vartree.specs.declared.names.Shape.{Shape}
 use Rattle.mp_vartree.proofs.OrderLemmas.{by_shape}
-use Rattle.mp_vartree.proofs.TreeLemmas.{ChangesChild, retain_steps, retain_below, retain_empty, unchanged_below}
+use Rattle.mp_vartree.proofs.TreeLemmas.{retain_steps, retain_below, retain_empty, unchanged_below}
 use Rattle.mp_vartree.proofs.NodeLemmas as node
 use Rattle.mp_vartree.proofs.NameLemmas.{unless}
 use Rattle.mp_vartree.proofs.StepLemmas as step

@@ -1,20 +1,18 @@
 -- Unknowns that are gathered group by group.
-use Rattle.std.proofs.Common.{◌≡◌, ℕ, zero, suc, cond, map, take, get_or, ◌+◌, ◌<◌, Bool, true, false, ◌&&◌, ◌||◌, List, [], ◌∷◌, ◌++◌, length, ◌⊎◌, inl, inr, Option, Some, None, T, slice_get, refl, sym, ap, ◌∙◌, subst, arith}
+use Rattle.std.proofs.Common.{◌≡◌, ℕ, zero, suc, cond, map, take, get_or, ◌+◌, ◌<◌, Bool, true, false, ◌&&◌, ◌||◌, List, [], ◌∷◌, length, ◌⊎◌, inl, inr, Option, Some, None, T, slice_get, refl, sym, ap, ◌∙◌, subst, arith}
 use Rattle.std.specs.Global.{Vec}
 use Rattle.std.specs.Option.{option_and_then, unwrap_or}
 use Rattle.std.proofs.lemmas.Bool.{cases_order, and_parts}
 use Rattle.std.proofs.lemmas.List.{take_more, map-append}
 use Rattle.std.proofs.lemmas.List.Folds.{list_any-append}
-use mathlib.Core.Bool.{true≢false}
-use Rattle.std.specs.declared.cmp.Ordering.{Ordering}
-use Rattle.std.specs.declared.cmp.Ordering.TheVariants.{Less, Equal, Greater}
+use Rattle.std.specs.declared.cmp.Ordering.TheVariants.{Less}
 use Rattle.std.specs.Ordering.{is_eq, is_lt, eq_by_cmp, nat_cmp}
 use Rattle.std.specs.Map.{lookup, keys_of}
 use Rattle.std.specs.List.{IsDistinct, AllByRecursion}
 use Rattle.std.specs.List.Sorted.{IsStrictlySortedBy}
 use Rattle.std.specs.Cmp.{eq_by_cmp_equiv, nat_cmp_total, tied_itself}
 use Rattle.std.specs.Cmp.Lexicographic.{slice_cmp}
-use Rattle.std.specs.FinMap.{FinMap, get, get-from_entries, is_sorted, find}
+use Rattle.std.specs.FinMap.{FinMap, get, get-from_entries, is_sorted}
 use Rattle.std.specs.FinMap.Entries.{below_all, where_key}
 use Rattle.std.proofs.lemmas.Option.{slice_get_within}
 use Rattle.std.proofs.lemmas.Map.Entries.{place_from_lookup, lookup_from_place}
@@ -30,7 +28,7 @@ use Rattle.mp_vartree.specs.declared.names.Shape.{Shape}
 use Rattle.mp_vartree.specs.declared.entry.Variable.{Variable}
 use Rattle.mp_vartree.proofs.OrderLemmas.{by_part, by_shape}
 use Rattle.mp_vartree.proofs.TreeLemmas.{tied}
-use Rattle.mp_vartree.proofs.GroupLemmas.{held_cmp, names_total, covers_name, get-all_names, none_some, same_some}
+use Rattle.mp_vartree.proofs.GroupLemmas.{held_cmp, names_total, covers_name, get-all_names, same_some}
 use Rattle.mp_vartree.proofs.MadeLemmas.{has_append, made_from, made_to}
 
 both : (c : Bool) → cond c true true ≡ true
@@ -71,9 +69,6 @@ pub record GathersBefore (i : ℕ) (old new : List ℕ) (es : Children) : Type 0
   pub stays : (n : ℕ) → has n old ≡ true → has n new ≡ true
   pub all : (n : ℕ) → OccursBefore i es n → has n new ≡ true
   pub only : (n : ℕ) → has n new ≡ true → (has n old ≡ true) ⊎ OccursBefore i es n
-
-pub no_children : (ns : List ℕ) (es : Children) → GathersBefore 0 ns ns es
-no_children ns es = record { stays = λ n h. h; all = λ n o. absurd (omega (arith, o.1)); only = λ n h. inl h }
 
 -- the place of one more: it is the last, or one before
 below_suc : (j i : ℕ) → j < i + 1 → (j < i) ⊎ (j ≡ i)
@@ -127,10 +122,6 @@ gathers_held old new paths group there g = record {
   only = λ n h. elim (g.only n h) [ inl first ↦ inl first | inr o ↦ inr ([], group, there, refl, o) ];
 }
 
--- and where there is none
-pub gathers_no_group : (ns : List ℕ) (paths : Groups) → get paths [] ≡ None → Gathers InGroup ns ns paths (covers false [])
-gathers_no_group ns paths none = record { stays = λ n h. h; all = λ n o. absurd (none_some (get paths []) o.1 none (ap (get paths) (sym (covers_itself o.0 o.3)) ∙ o.2)); only = λ n h. inl h }
-
 -- behind a shape, what is gathered from the child there
 pub gathers_child : (old new : List ℕ) (paths child : Groups) (below : Bool) (s : Shape) (rest : List Shape) → ((ps : List Shape) → get paths (s ∷ ps) ≡ get child ps)
     → Gathers InGroup old new child (covers below rest) → Gathers InGroup old new paths (covers below (s ∷ rest))
@@ -144,16 +135,6 @@ gathers_child old new paths child below s rest behind g = record {
         | inl first ↦ inl first
         | inr o ↦ inr (s ∷ o.0, o.1, behind o.0 ∙ o.2, ap (λ r. is_eq r && covers below rest o.0) (tied_itself by_shape.total s) ∙ o.3, o.4)
       ];
-}
-
--- and nothing where there is none
-pub gathers_no_child : (ns : List ℕ) (paths : Groups) (below : Bool) (s : Shape) (rest : List Shape) → ((ps : List Shape) → get paths (s ∷ ps) ≡ None) → Gathers InGroup ns ns paths (covers below (s ∷ rest))
-gathers_no_child ns paths below s rest behind = record {
-  stays = λ n h. h;
-  all = λ n o.
-      let k = covers_behind below s rest o.0 o.3 in
-      absurd (none_some (get paths (s ∷ k.0)) o.1 (behind k.0) (ap (get paths) (sym k.1) ∙ o.2));
-  only = λ n h. inl h;
 }
 
 module _ (paths : Groups) (es : Children)

@@ -1,5 +1,5 @@
 -- Names in groups by their patterns.
-use Rattle.std.proofs.Common.{◌≡◌, Bool, true, false, cond, not, ◌&&◌, List, [], ◌∷◌, Option, Some, None, is_some, refl, sym, ap, ◌∙◌, subst}
+use Rattle.std.proofs.Common.{◌≡◌, Bool, true, false, cond, not, ◌&&◌, List, [], ◌∷◌, Option, Some, None, is_some, refl, sym, ap, ◌∙◌}
 use Rattle.std.specs.Option.{option_and_then, unwrap_or}
 use Rattle.std.specs.Ordering.{is_eq, eq_by_cmp, match_ordering}
 use Rattle.std.specs.Cmp.{IsTotalOrder, tied_itself, both_ways, unsigned_ties}
@@ -7,20 +7,20 @@ use Rattle.std.specs.Cmp.Lexicographic.{lists_total}
 use Rattle.std.specs.FinMap.{FinMap, IsAntisymmetric, slice_cmp-IsAntisymmetric, empty, get, insert, find, entries, retain_keys, get-insert, get-empty, get-entries, get-from_entries, get-retain_keys, same_map}
 use Rattle.std.specs.FinMap.Entries.{put, by_order, find-put}
 use Rattle.std.specs.Global.{Vec}
-use Rattle.std.specs.Map.{lookup}
+use Rattle.std.specs.Map.{lookup, set_value}
 use Rattle.std.specs.BTreeMap.{insert_entry}
 use Rattle.std.specs.Cmp.Lexicographic.{slice_cmp}
 use Rattle.std.specs.declared.cmp.Ordering.{Ordering}
 use Rattle.std.specs.declared.cmp.Ordering.TheVariants.{Less, Equal, Greater}
 use mathlib.Core.Bool.{true≢false}
-use Rattle.mp_vartree.specs.Names.{name_cmp, shape_cmp, pattern_cmp, fits, matches, begins, is_meant, shape_of, pattern_of}
+use Rattle.mp_vartree.specs.Names.{name_cmp, shape_cmp, pattern_cmp, fits, matches, is_meant, shape_of, pattern_of}
 use Rattle.mp_vartree.specs.Layout.Groups.{covers, listed, by_names, with_each, with_group, grouped, all_names, AreGrouped, group_with, with_name}
 use Rattle.mp_vartree.specs.declared.names.Part.{Part}
 use Rattle.mp_vartree.specs.declared.names.Part.TheVariants as part
 use Rattle.mp_vartree.specs.declared.names.Shape.{Shape}
 use Rattle.mp_vartree.specs.declared.names.Shape.TheVariants as shape
 use Rattle.mp_vartree.proofs.OrderLemmas.{by_part, by_shape}
-use Rattle.mp_vartree.proofs.TreeLemmas.{option_or, is_equal, through, both_same}
+use Rattle.mp_vartree.proofs.TreeLemmas.{option_or, is_equal, through}
 use Rattle.mp_vartree.proofs.LawLemmas.{matches_one}
 
 pub names_total : IsTotalOrder name_cmp
@@ -235,4 +235,39 @@ module _ {X : Type 0} where
       same_map names_total names_same _ _
       (λ q. get-from_entries names_total (listed new) q ∙ ap (find name_cmp q) (ap listed entries ∙ listed_put k x old) ∙ find-put name_cmp names_total q k.items x (listed old)
       ∙ ap (λ n. cond (eq_by_cmp name_cmp q n) (Some x) (find name_cmp q (listed old))) is
+      ∙ sym (get-insert names_total (by_names old) name x q ∙ ap (cond (eq_by_cmp name_cmp q name) (Some x)) (get-from_entries names_total (listed old) q)))
+
+  shadowed : (b : Bool) (x y : X) (other : Option X) → cond b (Some x) other ≡ cond b (Some x) (cond b (Some y) other)
+  shadowed true x y other = refl
+  shadowed false x y other = refl
+
+  -- another value at a key that is there
+  set_found : (es : List (Vec Part × X)) (q name : List Part) (x old : X) → lookup (λ k. eq_by_cmp name_cmp name k.items) es ≡ Some old
+      → find name_cmp q (listed (set_value (λ k. eq_by_cmp name_cmp name k.items) es x)) ≡ cond (eq_by_cmp name_cmp q name) (Some x) (find name_cmp q (listed es))
+  set_found [] q name x old found = cc
+  set_found (e ∷ es) q name x old found =
+      let others = set_value (λ k. eq_by_cmp name_cmp name k.items) es x in
+      let rest = find name_cmp q (listed es) in
+      elim (eq_by_cmp name_cmp name e.0.items) as (λ b. eq_by_cmp name_cmp name e.0.items ≡ b → cond b (Some e.1) (lookup (λ k. eq_by_cmp name_cmp name k.items) es) ≡ Some old
+      → find name_cmp q (listed (cond b ((e.0, x) ∷ es) (e ∷ others))) ≡ cond (eq_by_cmp name_cmp q name) (Some x) (cond (eq_by_cmp name_cmp q e.0.items) (Some e.1) rest)) [
+        | true ↦ λ same f.
+            let is = names_same name e.0.items (is_equal (name_cmp name e.0.items) same) in
+            ap (λ k. cond (eq_by_cmp name_cmp q k) (Some x) rest) (sym is) ∙ shadowed (eq_by_cmp name_cmp q name) x e.1 rest
+            ∙ ap (λ k. cond (eq_by_cmp name_cmp q name) (Some x) (cond (eq_by_cmp name_cmp q k) (Some e.1) rest)) is
+        | false ↦ λ other f.
+            ap (cond (eq_by_cmp name_cmp q e.0.items) (Some e.1)) (set_found es q name x old f)
+            ∙ elim (eq_by_cmp name_cmp q name) as (λ b. eq_by_cmp name_cmp q name ≡ b
+            → cond (eq_by_cmp name_cmp q e.0.items) (Some e.1) (cond b (Some x) rest) ≡ cond b (Some x) (cond (eq_by_cmp name_cmp q e.0.items) (Some e.1) rest)) [
+              | true ↦ λ t. ap (λ a. cond a (Some e.1) (Some x)) (ap (λ k. eq_by_cmp name_cmp k e.0.items) (names_same q name (is_equal (name_cmp q name) t)) ∙ other)
+              | false ↦ λ t. refl
+            ] refl
+      ] refl found
+
+  pub written_by_name : (old new : List (Vec Part × X)) (name : List Part) (x was : X) → lookup (λ k. is_eq (slice_cmp by_part.derived name k.items)) old ≡ Some was
+      → new ≡ set_value (λ k. is_eq (slice_cmp by_part.derived name k.items)) old x → by_names new ≡ insert (by_names old) name x
+  written_by_name old new name x was found entries =
+      same_map names_total names_same _ _
+      (λ q. get-from_entries names_total (listed new) q ∙ ap (λ es. find name_cmp q (listed es)) entries
+      ∙ (λ i. find name_cmp q (listed (set_value (λ k. is_eq (slice_cmp (by_part.same i) name k.items)) old x)))
+      ∙ set_found old q name x was (sym (λ i. lookup (λ k. is_eq (slice_cmp (by_part.same i) name k.items)) old) ∙ found)
       ∙ sym (get-insert names_total (by_names old) name x q ∙ ap (cond (eq_by_cmp name_cmp q name) (Some x)) (get-from_entries names_total (listed old) q)))

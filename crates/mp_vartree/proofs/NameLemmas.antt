@@ -1,26 +1,14 @@
 -- What stands at names, and what a pattern takes away.
-use Rattle.std.proofs.Common.{◌≡◌, ℕ, ℤ, Bool, true, false, cond, not, ◌&&◌, nat_eq, List, [], ◌∷◌, Option, None, BTreeMap, refl, sym, ap, ◌∙◌, subst}
+use Rattle.std.proofs.Common.{◌≡◌, ℕ, Bool, true, false, cond, not, ◌&&◌, nat_eq, List, [], ◌∷◌, refl, sym, ap, ◌∙◌}
 use Rattle.std.specs.Ordering.{is_eq, eq_by_cmp, nat_cmp}
 use Rattle.std.specs.Cmp.{unsigned_ties, tied_itself, nat_cmp_total}
 use Rattle.std.proofs.lemmas.Bool.{eqb-true, and_parts}
 use mathlib.Core.Bool.{true≢false}
-use Rattle.std.specs.Map.Calls.{RetainsPairs}
-use Rattle.std.specs.BTreeMap.{get_by, IsOrdered}
-use Rattle.std.specs.Map.{keys_of}
-use Rattle.std.specs.List.Sorted.{IsStrictlySortedBy}
-use Rattle.std.proofs.lemmas.Map.Keys.{IsDistinct-from_sorted}
-use Rattle.std.specs.FinMap.{FinMap, empty, retain_keys, get-empty}
-use Rattle.mp_vartree.specs.Names.{part_cmp, name_cmp, full_name, full_pattern, is_meant, begins, matches}
-use Rattle.mp_vartree.specs.Layout.Tree.{Grown}
+use Rattle.mp_vartree.specs.Names.{part_cmp, full_name, full_pattern, is_meant, begins, matches}
 use Rattle.mp_vartree.specs.declared.names.Part.{Part}
 use Rattle.mp_vartree.specs.declared.names.Part.TheVariants as part
 use Rattle.mp_vartree.specs.declared.names.Shape.{Shape}
 use Rattle.mp_vartree.specs.declared.names.Shape.TheVariants as shape
-use Rattle.mp_vartree.proofs.OrderLemmas.{by_part}
-use Rattle.mp_vartree.proofs.TreeLemmas.{retain_steps, retain_below, retain_empty, retain_all}
-use Rattle.mp_vartree.proofs.NodeLemmas as node
-use Rattle.mp_vartree.proofs.StepLemmas as step
-use Rattle.mp_vartree.proofs.StepLemmas.{without_child}
 
 pub unless : (a b : Bool) → not (a && b) ≡ cond a (not b) true
 unless true b = refl

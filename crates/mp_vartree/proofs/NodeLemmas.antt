@@ -1,17 +1,15 @@
 -- What stands at a path, by what its node holds and by the children there; and what changes with one child.
-use Rattle.std.proofs.Common.{◌≡◌, suc, ◌<◌, Bool, true, false, cond, List, [], ◌∷◌, ◌++◌, arith, Option, Some, None, refl, sym, ap, ◌∙◌, subst}
+use Rattle.std.proofs.Common.{◌≡◌, suc, ◌<◌, Bool, true, false, cond, List, [], ◌∷◌, ◌++◌, arith, Option, Some, None, refl, sym, ap, ◌∙◌}
 use Rattle.std.specs.Option.{option_map, option_and_then}
-use Rattle.std.specs.Ordering.{is_eq, eq_by_cmp}
+use Rattle.std.specs.Ordering.{is_eq}
 use Rattle.std.specs.declared.cmp.Ordering.{Ordering}
 use Rattle.std.specs.Cmp.{IsTotalOrder}
 use Rattle.std.specs.Cmp.Lexicographic.{slice_cmp}
 use Rattle.std.specs.FinMap.{FinMap, IsAntisymmetric, get, empty, get-empty, retain_keys}
-use Rattle.std.specs.Map.{lookup, keys_of}
-use Rattle.std.specs.List.{AllByRecursion, IsDistinct}
-use Rattle.std.specs.Map.Calls.{RetainsPairs}
+use Rattle.std.specs.Map.{lookup}
 use Rattle.mp_vartree.specs.Layout.Tree.{Child, node_of, nodes_in}
 use Rattle.mp_vartree.specs.Layout.Children.{paths_of}
-use Rattle.mp_vartree.proofs.TreeLemmas.{ChangesChild, get-node_of, get-node_of-here, get-kept, tied, both_same, retain_steps}
+use Rattle.mp_vartree.proofs.TreeLemmas.{ChangesChild, get-node_of, get-node_of-here, retain_steps}
 
 pub passed : {A B : Type 0} (f : A → B) (b : Bool) (x : A) (o : Option A) (p : Option B) → p ≡ option_map f o → cond b (Some (f x)) p ≡ option_map f (cond b (Some x) o)
 passed f true x o p e = refl

@@ -189,9 +189,5 @@ module _ {K : Type 0} (R : K → K → Ordering) (o : IsTotalOrder R) (same : Is
     pub retain_empty : (f : List K → Bool) → retain_keys (empty {X = X} {R = slice_cmp R}) f ≡ empty
     retain_empty f = same_map paths_total paths_same _ _ (λ q. get-kept empty f q ∙ ap (λ o. cond (f q) o None) (get-empty (slice_cmp R) q) ∙ sym (both_same (f q) None) ∙ sym (get-empty (slice_cmp R) q))
 
-    -- all paths are kept where all pass
-    pub retain_all : (m : FinMap (slice_cmp R) X) → m ≡ retain_keys m (λ path. true)
-    retain_all m = same_map paths_total paths_same _ _ (λ q. sym (get-kept m (λ path. true) q))
-
     pub retain_none : (m : FinMap (slice_cmp R) X) → empty ≡ retain_keys m (λ path. false)
     retain_none m = same_map paths_total paths_same _ _ (λ q. get-empty (slice_cmp R) q ∙ sym (get-kept m (λ path. false) q))

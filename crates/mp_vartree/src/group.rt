@@ -57,6 +57,10 @@ impl<X: Drop> Group<X> {
         ensures ok { OnOk result (self.new ≡ insert self.old name.now x) }
         ensures err { OnErr result (self.new ≡ self.old) }
     {
+        if let Some(place) = self.names.get_mut(name) {
+            *place = x;
+            return Ok(());
+        }
         let name = Vec::from_slice(alloc, name)?;
         self.names.insert(name, x)?;
         Ok(())

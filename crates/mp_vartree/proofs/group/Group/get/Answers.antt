@@ -1,4 +1,4 @@
-use Rattle.std.proofs.Common.{ap, sym, ◌∙◌}
+use Rattle.std.proofs.Common.{ap, ◌∙◌}
 use Rattle.std.specs.FinMap.{get}
 use Rattle.mp_vartree.proofs.GroupLemmas.{found_by_name}
 use Rattle.mp_vartree.proofs.group.Group.get.Goals as goal
