@@ -1,7 +1,7 @@
 -- On what a text comes to: a short one is read, and a long one is not built.
 use Rattle.std.proofs.Common.{◌≡◌, ◌≤◌, ◌<◌, ◌∷◌, ◌∙◌, ℕ, List, [], length, Bool, true, false, refl, sym, ap, subst, arith, Ok, Err}
 use Rattle.std.specs.Prelude.{nat_le, codes, Result, IfOk}
-use Rattle.mp_scaled.specs.declared.bytes.NoMemory.{NoMemory}
+use Rattle.mp_scaled.specs.declared.no_memory.NoMemory.{NoMemory}
 use Rattle.std.proofs.lemmas.Bool.Decides.{nat_tests}
 use Rattle.mp_values.specs.Outcome.{◌>>=◌, change}
 use Rattle.mp_values.specs.Refusals.{not_built}

@@ -1,7 +1,7 @@
 -- What taking the first of a list gives and leaves.
 use Rattle.std.specs.Prelude.{◌≡◌, List, [], ◌∷◌, Option, Some, None, Result, Ok, Err}
 use Rattle.mp_report.specs.declared.place.Place.{Place}
-use Rattle.mp_scaled.specs.declared.bytes.NoMemory.{NoMemory}
+use Rattle.mp_scaled.specs.declared.no_memory.NoMemory.{NoMemory}
 use Rattle.mp_values.specs.declared.item.Item as item
 use Rattle.mp_values.specs.declared.turn.Pending.{Pending}
 use Rattle.mp_values.specs.declared.turn.Pending.TheVariants.{Item}

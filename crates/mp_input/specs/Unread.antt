@@ -1,7 +1,7 @@
 -- What contracts see of an input, and what its calls do.
 use Rattle.std.specs.Prelude.{◌≡◌, ℕ, List, [], ◌∷◌, Option, Some, None, Result, Ok, Err}
 use Rattle.mp_report.specs.declared.place.Place.{Place}
-use Rattle.mp_scaled.specs.declared.bytes.NoMemory.{NoMemory}
+use Rattle.mp_scaled.specs.declared.no_memory.NoMemory.{NoMemory}
 use Rattle.mp_values.specs.declared.turn.Pending.{Pending}
 use Rattle.mp_input.specs.declared.input.NoLoop.{NoLoop}
 use Rattle.mp_input.specs.Lines.{last_after}
