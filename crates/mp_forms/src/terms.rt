@@ -1,6 +1,6 @@
 //! Lists of terms, and how they are added.
 
-ghost use Rattle.std.specs.Prelude.{◌≡◌, ◌++◌, IfOk, OnOk, IsTrue};
+ghost use Rattle.std.specs.Prelude.{◌≡◌, ◌↔◌, ◌++◌, IfOk, OnOk, IsTrue};
 ghost use Rattle.mp_forms.specs.Ratios.{ratio_times};
 ghost use Rattle.mp_forms.specs.Terms.{term_from, lone_term, changed_terms, sum_terms, SerialsDecrease, AreTerms};
 
@@ -92,7 +92,7 @@ pub fn sum_of_terms(
 /// Whether all of these terms have lower serials.
 pub fn stands_before(serial: u32, terms: &[Term]) -> bool
     requires { AreTerms terms.now }
-    ensures { IsTrue result → SerialsDecrease serial terms.now }
+    ensures { IsTrue result ↔ SerialsDecrease serial terms.now }
 {
     match terms.first() {
         Some(first) => first.serial < serial,
