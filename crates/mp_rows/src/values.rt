@@ -1,9 +1,11 @@
+//! Rows of mp_values: copies, words, refusals.
+
 use mp_forms::{Form, FormFault};
-use mp_report::Place;
+use mp_report::{Place, SourceError};
 use mp_scaled::{Arith, Listing, NoMemory, Shared, SharedSlice};
 use mp_tokens::{BadToken, FreshMeaning, Token};
 use mp_values::{
-    Command, Item, Meaning, Remaining, Scaled, Stop, UnbuiltWord, Value, Values, Word,
+    Command, Fault, Item, Meaning, Remaining, Scaled, Stop, UnbuiltWord, Value, Values, Word,
 };
 use std::alloc::Global;
 use std::fmt::Debug;
@@ -96,47 +98,23 @@ fn an_item_with_text(rt: HostRuntime) -> Result<(), Fail> {
     }
 }
 
-const NAMES: [&[u8]; 30] = [
-    b"+",
-    b"-",
-    b"*",
-    b"/",
-    b",",
-    b";",
-    b"=",
-    b":=",
-    b"[",
-    b"]",
-    b"str",
-    b"begingroup",
-    b"endgroup",
-    b"end",
-    b"show",
-    b"save",
-    b"interim",
-    b"let",
-    b"delimiters",
-    b"newinternal",
-    b"message",
-    b"errmessage",
-    b"errhelp",
-    b"batchmode",
-    b"scrollmode",
-    b"nonstopmode",
-    b"errorstopmode",
-    b"boolean",
-    b"numeric",
-    b"string",
-];
+/// The names of all words, in their order.
+const NAMES: &str =
+    "+ - * / , ; = := [ ] str begingroup endgroup end show save interim let delimiters newinternal \
+message errmessage errhelp batchmode scrollmode nonstopmode errorstopmode boolean numeric string";
 
 #[test]
 fn words(_rt: HostRuntime) -> Result<(), Fail> {
-    for (word, name) in Word::ALL.iter().zip(NAMES.iter()) {
-        if word.name() != *name {
+    let mut names = NAMES.split_whitespace();
+    for word in &Word::ALL {
+        if names.next().map(|name| name.as_bytes()) != Some(word.name()) {
             return Err(Fail::new("the name of a word"));
         }
     }
-    Ok(())
+    match names.next() {
+        None => Ok(()),
+        Some(_) => Err(Fail::new("a name of no word")),
+    }
 }
 
 #[test]
@@ -153,32 +131,41 @@ fn stops_with_texts(rt: HostRuntime) -> Result<(), Fail> {
                 Stop::unexpected(alloc, b"a", b"b"),
                 "Refused(Unexpected(Listing { inner: [97] }, Listing { inner: [98] }))",
             ),
+            (Stop::from(NoMemory), "NoMemory"),
             (
-                Stop::wrong_type(alloc, b"a"),
-                "Refused(WrongType(Listing { inner: [97] }))",
+                Stop::from(Fault::Refused(SourceError::Overflow)),
+                "Refused(Overflow)",
             ),
             (
-                Stop::not_known(alloc, b"a"),
-                "Refused(NotKnown(Listing { inner: [97] }))",
+                Stop::from(BadToken::Character(7)),
+                "Refused(BadCharacter(7))",
             ),
         ],
     )
 }
 
 #[test]
-fn stops_of_faults(rt: HostRuntime) -> Result<(), Fail> {
+fn faults(rt: HostRuntime) -> Result<(), Fail> {
+    let alloc = rt.alloc();
     all_show(
-        rt.alloc(),
+        alloc,
         &[
-            (Stop::from(NoMemory), "NoMemory"),
-            (Stop::from(Arith::DivisionByZero), "Refused(DivisionByZero)"),
             (
-                Stop::from(FormFault::CoefficientTooLarge),
-                "Refused(CoefficientTooLarge)",
+                Fault::wrong_type(alloc, b"a"),
+                "Refused(WrongType(Listing { inner: [97] }))",
             ),
             (
-                Stop::from(BadToken::Character(7)),
-                "Refused(BadCharacter(7))",
+                Fault::not_known(alloc, b"a"),
+                "Refused(NotKnown(Listing { inner: [97] }))",
+            ),
+            (Fault::from(NoMemory), "NoMemory"),
+            (
+                Fault::from(Arith::DivisionByZero),
+                "Refused(DivisionByZero)",
+            ),
+            (
+                Fault::from(FormFault::CoefficientTooLarge),
+                "Refused(CoefficientTooLarge)",
             ),
         ],
     )
