@@ -6,7 +6,7 @@ use Rattle.mp_files.specs.declared.outside.Contents.TheVariants as contents
 use Rattle.mp_files.specs.Contents.{content_of}
 use Rattle.mp_report.specs.declared.error.SourceError.TheVariants as error
 use Rattle.mp_values.specs.Outcome.{Refused, Unread, give, halt}
-use Rattle.mp_rules.specs.Machine.{Machine, Rule}
+use Rattle.mp_rules.specs.Machine.{Rule}
 use Rattle.mp_eval.specs.declared.name.TheConstants.{LONGEST_NAME}
 
 -- the bytes that a file's name may have: 33 to 126

@@ -16,7 +16,7 @@ use Rattle.mp_rules.specs.Starts.{start_on}
 use Rattle.mp_eval.specs.declared.outcome.Run.{Run}
 use Rattle.mp_eval.specs.declared.outcome.RunEnd.{RunEnd}
 use Rattle.mp_eval.specs.declared.outcome.RunEnd.TheVariants as ends
-use Rattle.mp_eval.specs.Run.{Ending, Finished, Stopped, course_of, no_place, put_file, put_prelude}
+use Rattle.mp_eval.specs.Run.{Ending, Stopped, course_of, no_place, put_file, put_prelude}
 use Rattle.mp_eval.specs.Gives.{run_end_of, IsSpent}
 
 -- no source was asked for that is not there to read

@@ -1,5 +1,5 @@
 -- On outcomes: when two of them are one, and how far they went.
-use Rattle.std.proofs.Common.{◌≡◌, ◌≤◌, refl, subst, Result, Ok, Err}
+use Rattle.std.proofs.Common.{◌≡◌, ◌≤◌, refl, subst, Ok, Err}
 use Rattle.mp_values.specs.Outcome.{then, Cause, Refused, OutOfSteps, Unread}
 use Rattle.mp_values.specs.Outcome as act
 use Rattle.mp_acts.specs.State.{State}

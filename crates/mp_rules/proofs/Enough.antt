@@ -4,7 +4,7 @@ use Rattle.std.specs.Prelude.{codes, nat_lt, if◌then◌else◌}
 use Rattle.std.proofs.lemmas.Bool.Decides.{nat_tests}
 use Rattle.mp_report.specs.declared.error.Cap.TheVariants as cap
 use Rattle.mp_report.specs.declared.error.SourceError.TheVariants as error
-use Rattle.mp_values.specs.Outcome.{◌>>=◌, lift, Refused, OutOfSteps}
+use Rattle.mp_values.specs.Outcome.{◌>>=◌, lift, Refused}
 use Rattle.mp_values.specs.Refusals.{not_built, bad_token}
 use Rattle.mp_values.specs.Words.{unary_of}
 use Rattle.mp_values.specs.declared.item.Item.{Item}
@@ -39,7 +39,6 @@ use Rattle.mp_acts.specs.Suffixes.{suffix_string, string_token, subscript}
 use Rattle.mp_acts.specs.Variables.{root_of, read, declare}
 use Rattle.mp_acts.specs.Lines.{show, speak}
 use Rattle.mp_acts.specs.Groups.{begin_group, end_group, with_each, let_symbol, delimiters, interim}
-use Rattle.mp_acts.specs.declared.target.Target.{Target}
 use Rattle.mp_acts.specs.declared.target.Target.TheVariants as target
 use Rattle.mp_rules.specs.Machine.{Machine, weight, held_weight, coming, left}
 use Rattle.mp_rules.specs.Fronts.{front_of_meaning, taken_item, taken_as, refused_front, refused_raw, begins_primary, begins_factor, secondary_in, tertiary_in}
@@ -54,11 +53,11 @@ use Rattle.mp_rules.specs.declared.front.Raw.TheVariants as raw
 use Rattle.mp_rules.specs.declared.chain_side.ChainSide.{ChainSide as Side}
 use Rattle.mp_rules.specs.declared.chain_side.ChainSide.TheVariants as side
 use Rattle.mp_rules.specs.Rules.{Rules, What, NextFront, NextRaw, NumberThen, Factor, VariableName, Suffix, Group, PrimaryInside, Primary, Leading, SecondaryRest, Secondary, TertiaryRest, ExpressionFrom, Expression, ChainSide, ChainRest, Chain, ShowList, SymbolList, DeclaredName, TypeList, CommandRest, Statement, GroupStatements, Statements}
-use Rattle.mp_rules.specs.Rules.{shape_of, front_of_symbol, front_of, held_or_taken, next_front, raw_of, next_raw, symbol_in, raw_symbol, next_primary, next_expression, factor_by, over_by, then_by, number, room_by, room_for_part, part_on, bracket_by, bracketed, suffix_by, variable_name, variable, are_pair, closed_if, closed_by, closed, parenthesis, group, string_primary, internal, str_primary, applied, applied_by, primary_by, primary, variable_side_by, internal_side_by, leading_by, leading, secondary_by, secondary, tertiary_by, expression_from, expression, side_from, chain_side, chain_on, lone_or_vacuous, chain_end, chain_by, chain, show_by, show_list, symbols_by, symbol_list, shape_on, empty_by, name_by, type_by, type_list, is_equals, equals_by, equals_in, raw_equals, let_equal, delimiter_pair, internal_in, assign_in, internal_name, assign_sign, interim_value, spoken, command_rest, chain_if, statement_by, statement, may_stand_alone, more_by, group_more, group_by, group_statements, end_by, statements, case}
+use Rattle.mp_rules.specs.Rules.{shape_of, front_of_symbol, front_of, held_or_taken, next_front, raw_of, next_raw, symbol_in, raw_symbol, next_primary, next_expression, factor_by, over_by, then_by, number, room_by, room_for_part, part_on, bracket_by, bracketed, suffix_by, variable_name, variable, are_pair, closed_if, closed_by, parenthesis, group, string_primary, internal, str_primary, applied, applied_by, primary_by, primary, variable_side_by, internal_side_by, leading_by, leading, secondary_by, secondary, tertiary_by, expression_from, expression, side_from, chain_side, chain_on, lone_or_vacuous, chain_end, chain_by, chain, show_by, show_list, symbols_by, symbol_list, shape_on, empty_by, name_by, type_by, type_list, is_equals, equals_by, equals_in, raw_equals, let_equal, delimiter_pair, internal_in, assign_in, internal_name, assign_sign, interim_value, spoken, command_rest, chain_if, statement_by, may_stand_alone, more_by, group_more, group_by, group_statements, end_by, statements, case}
 use Rattle.mp_rules.specs.Promises.{from, cost, used_by, used_by_side}
 use Rattle.mp_rules.specs.Meaning.{rule, the, depth}
-use Rattle.mp_rules.proofs.Agreement.{After, Agree, AsMany, IsSpent, agree-then, weaker, stopped, given, acted}
-use Rattle.mp_rules.proofs.Ranks.{rank, measure, deep}
+use Rattle.mp_rules.proofs.Agreement.{After, Agree, AsMany, agree-then, weaker, stopped, given, acted}
+use Rattle.mp_rules.proofs.Ranks.{measure, deep}
 
 -- so many fronts may still be used at most, and so many were used for certain
 pub record FewerBy (bound used : ℕ) (t : Machine) : Type 0 where

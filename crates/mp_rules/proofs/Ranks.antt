@@ -1,6 +1,6 @@
 -- On what is asked: a rule asks others of a lower rank, or after a front was used.
-use Rattle.std.proofs.Common.{◌≡◌, ◌<◌, ◌≤◌, ◌+◌, ◌*◌, ℕ, arith}
-use Rattle.mp_rules.specs.Machine.{Machine, weight, left}
+use Rattle.std.proofs.Common.{◌<◌, ◌+◌, ◌*◌, ℕ, arith}
+use Rattle.mp_rules.specs.Machine.{Machine}
 use Rattle.mp_rules.specs.Promises.{from}
 use Rattle.mp_rules.specs.Meaning.{depth}
 use Rattle.mp_rules.specs.declared.chain_side.ChainSide.TheVariants as side

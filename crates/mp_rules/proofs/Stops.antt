@@ -1,5 +1,5 @@
 -- On stops: a fault of an act stops a run by its error.
-use Rattle.std.proofs.Common.{◌≡◌, ◌≢◌, refl, ap, Result, Ok, Err}
+use Rattle.std.proofs.Common.{◌≡◌, ◌≢◌, refl, ap, Err}
 use Rattle.mp_values.specs.Outcome.{Cause, Refused, cause_of, error_of, stop_of}
 use Rattle.mp_values.specs.Outcome as act
 use Rattle.mp_values.specs.declared.fault.Fault.{Fault}

@@ -11,7 +11,6 @@ use Rattle.mp_values.specs.declared.meaning.Meaning.TheVariants as meaning
 use Rattle.mp_values.specs.Words.{unary_of}
 use Rattle.mp_values.specs.declared.word.Secondary.{Secondary}
 use Rattle.mp_values.specs.declared.word.Tertiary.{Tertiary}
-use Rattle.mp_values.specs.declared.word.Unary.{Unary}
 use Rattle.mp_values.specs.declared.word.Word.{Word}
 use Rattle.mp_values.specs.declared.word.Word.TheVariants as word
 use Rattle.mp_acts.specs.State.{State, symbol_name, symbol_meaning}

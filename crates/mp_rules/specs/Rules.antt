@@ -22,13 +22,12 @@ use Rattle.mp_values.specs.declared.word.Speech.{Speech}
 use Rattle.mp_values.specs.declared.word.SymbolCommand.{SymbolCommand}
 use Rattle.mp_values.specs.declared.word.Tertiary.{Tertiary as TertiaryOperator}
 use Rattle.mp_values.specs.declared.word.Unary.{Unary as UnaryOperator}
-use Rattle.mp_values.specs.declared.word.Word.{Word}
 use Rattle.mp_values.specs.declared.word.Word.TheVariants as word
 use Rattle.mp_vartree.specs.declared.names.Part.{Part}
 use Rattle.mp_vartree.specs.declared.names.Part.TheVariants as part
 use Rattle.mp_vartree.specs.declared.names.Shape.{Shape}
 use Rattle.mp_vartree.specs.declared.names.Shape.TheVariants as shape
-use Rattle.mp_acts.specs.State.{State, symbol_name, symbol_meaning}
+use Rattle.mp_acts.specs.State.{symbol_name, symbol_meaning}
 use Rattle.mp_acts.specs.Arithmetic.{known_number, fraction}
 use Rattle.mp_acts.specs.Arithmetic as act
 use Rattle.mp_acts.specs.Suffixes.{suffix_string, string_token, subscript}
@@ -36,7 +35,7 @@ use Rattle.mp_acts.specs.Variables.{root_of, read, declare}
 use Rattle.mp_acts.specs.Lines.{show, speak}
 use Rattle.mp_acts.specs.Groups.{begin_group, end_group, with_each, let_symbol, delimiters, interim}
 use Rattle.mp_acts.specs.declared.target.Target.TheVariants as target
-use Rattle.mp_rules.specs.Machine.{Machine, Rule}
+use Rattle.mp_rules.specs.Machine.{Rule}
 use Rattle.mp_rules.specs.Fronts.{symbol_front, taken_as, secondary_in, tertiary_in, begins_primary, begins_factor}
 use Rattle.mp_rules.specs.Steps.{take_first, enter, leave, see, see_string, hold, string_in_hand, acting, internal_number, unexpected, unexpected_raw}
 use Rattle.mp_rules.specs.Chains.{settle}

@@ -2,7 +2,7 @@
 use Rattle.std.specs.Prelude.{ℕ, List, [], None, map}
 use Rattle.mp_files.specs.declared.outside.Kept.{Kept}
 use Rattle.mp_report.specs.declared.place.Place.{Place}
-use Rattle.mp_values.specs.Outcome.{◌>>=◌, give}
+use Rattle.mp_values.specs.Outcome.{◌>>=◌}
 use Rattle.mp_values.specs.declared.turn.Pending.{Pending}
 use Rattle.mp_acts.specs.State.{State}
 use Rattle.mp_rules.specs.Machine.{Machine, Rule}

@@ -1,5 +1,5 @@
 -- The single steps of a run.
-use Rattle.std.specs.Prelude.{ℕ, List, [], ◌∷◌, ◌+◌, ◌-◌, Option, Ok, Err, Some, None, nat_lt, codes, if◌then◌else◌}
+use Rattle.std.specs.Prelude.{ℕ, List, [], ◌∷◌, ◌+◌, ◌-◌, Option, Ok, Err, Some, None, nat_lt, if◌then◌else◌}
 use Rattle.mp_report.specs.declared.place.Place.{Place}
 use Rattle.mp_report.specs.declared.error.Cap.TheVariants as cap
 use Rattle.mp_report.specs.declared.error.SourceError.TheVariants as error
