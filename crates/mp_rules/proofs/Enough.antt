@@ -48,6 +48,8 @@ use Rattle.mp_rules.specs.declared.front.Front.{Front}
 use Rattle.mp_rules.specs.declared.front.Front.TheVariants as front
 use Rattle.mp_rules.specs.declared.front.Taken.{Taken}
 use Rattle.mp_rules.specs.declared.front.Taken.TheVariants as taken
+use Rattle.mp_rules.specs.declared.evaluator.TheConstants.{NESTING_LIMIT}
+use Rattle.mp_rules.specs.declared.suffixes.TheConstants.{PART_LIMIT}
 use Rattle.mp_rules.specs.declared.front.Raw.{Raw}
 use Rattle.mp_rules.specs.declared.front.Raw.TheVariants as raw
 use Rattle.mp_rules.specs.declared.chain_side.ChainSide.{ChainSide as Side}
@@ -116,13 +118,13 @@ took : (s : Machine) → Agree (take_first s) (take_first s) (λ x. TookOne x s)
 unfolding take_first
 took s = record { same = refl; went = taken_from s.text s }
 
-entered_by : (b : Bool) (s : Machine) → After {A = Unit {0}} (if b then Ok (tt, record s { nesting = s.nesting + 1 }) else Err (Refused (error.Limit cap.Nesting 100), s)) (λ x. AsMany s)
+entered_by : (b : Bool) (s : Machine) → After {A = Unit {0}} (if b then Ok (tt, record s { nesting = s.nesting + 1 }) else Err (Refused (error.Limit cap.Nesting NESTING_LIMIT), s)) (λ x. AsMany s)
 entered_by true s = record { went = refl; hand = refl }
 entered_by false s = tt
 
 entered : (s : Machine) → Agree (enter s) (enter s) (λ x. AsMany s)
 unfolding enter
-entered s = record { same = refl; went = entered_by (nat_lt s.nesting 100) s }
+entered s = record { same = refl; went = entered_by (nat_lt s.nesting NESTING_LIMIT) s }
 
 -- FRONTS AND RAW ITEMS
 
@@ -234,10 +236,10 @@ number-agrees r1 r2 n m s c h =
 
 room_by-agrees : (b : Bool) (s : Machine) → Agree (room_by b s) (room_by b s) (λ x. AsMany s)
 room_by-agrees true s = given tt s (λ x. AsMany s) (record { went = refl; hand = refl })
-room_by-agrees false s = stopped (Refused (error.Limit cap.Suffix 50)) s (λ x. AsMany s) tt
+room_by-agrees false s = stopped (Refused (error.Limit cap.Suffix PART_LIMIT)) s (λ x. AsMany s) tt
 
 room-agrees : (count : ℕ) (s : Machine) → Agree (room_for_part count s) (room_for_part count s) (λ x. AsMany s)
-room-agrees count s = room_by-agrees (nat_lt count 50) s
+room-agrees count s = room_by-agrees (nat_lt count PART_LIMIT) s
 
 -- where a front was used
 part_on-agrees : (r1 r2 : Rules) (parts : List Part) (p : Part) (b m : ℕ) (s : Machine) → coming s + 1 ≤ b → 64 * b + 1 ≤ m → Below r1 r2 m → Agree (part_on r1 parts p s) (part_on r2 parts p s) (λ answer. Fewer b)

@@ -43,6 +43,7 @@ use Rattle.mp_rules.specs.declared.front.Front.{Front}
 use Rattle.mp_rules.specs.declared.front.Front.TheVariants as front
 use Rattle.mp_rules.specs.declared.front.Taken.{Taken}
 use Rattle.mp_rules.specs.declared.front.Taken.TheVariants as taken
+use Rattle.mp_rules.specs.declared.suffixes.TheConstants.{PART_LIMIT}
 use Rattle.mp_rules.specs.declared.front.Raw.{Raw}
 use Rattle.mp_rules.specs.declared.front.Raw.TheVariants as raw
 use Rattle.mp_rules.specs.declared.chain_side.ChainSide.{ChainSide as Side}
@@ -220,14 +221,14 @@ number rule n = do
   next ← rule NextFront
   rule (NumberThen n)
 
--- a name may have 50 parts behind its tag
+-- a name may have so many parts behind its tag
 abbrev pub room_by : Bool → Rule (Unit {0})
 room_by true = give tt
-room_by false = halt (Refused (error.Limit cap.Suffix 50))
+room_by false = halt (Refused (error.Limit cap.Suffix PART_LIMIT))
 
 -- one more part, behind so many
 abbrev pub room_for_part : ℕ → Rule (Unit {0})
-room_for_part count = room_by (nat_lt count 50)
+room_for_part count = room_by (nat_lt count PART_LIMIT)
 
 -- the parts so far and one more, and what is behind it
 abbrev pub part_on : Rules → List Part → Part → Rule (List Part)

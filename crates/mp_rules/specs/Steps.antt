@@ -17,6 +17,7 @@ use Rattle.mp_rules.specs.Fronts.{refused_front, refused_raw}
 use Rattle.mp_rules.specs.declared.front.Front.{Front}
 use Rattle.mp_rules.specs.declared.front.Front.TheVariants as front
 use Rattle.mp_rules.specs.declared.front.Raw.{Raw}
+use Rattle.mp_rules.specs.declared.evaluator.TheConstants.{NESTING_LIMIT}
 
 abbrev pub take_from : List Pending → Rule (Option Pending)
 take_from [] s = Ok (None, s)
@@ -33,12 +34,12 @@ take_first s = take_from s.text s
 abbrev pub place_of : Machine → Place
 place_of s = place_in s.text s.last
 
--- a primary is read; no more than 100 inside one another
+-- a primary is read; no more than so many inside one another
 unfoldable pub enter : Rule (Unit {0})
 enter s =
-    if nat_lt s.nesting 100
+    if nat_lt s.nesting NESTING_LIMIT
     then Ok (tt, record s { nesting = s.nesting + 1 })
-    else Err (Refused (error.Limit cap.Nesting 100), s)
+    else Err (Refused (error.Limit cap.Nesting NESTING_LIMIT), s)
 
 -- a primary was read
 abbrev pub leave : Machine → Machine

@@ -153,7 +153,7 @@ impl Evaluator {
 
     /// Gives a side of a chain a value.
     #[tactic(auto, using(crate::proofs::Stops::fault_stops))]
-    pub(crate) fn give(&mut self, side: &ChainSide, value: &Value) -> Result<(), Stop>
+    pub(crate) fn settle_side(&mut self, side: &ChainSide, value: &Value) -> Result<(), Stop>
         requires side { reach_of_side side.now ≤ unknowns self.old }
         requires value { reach value.now ≤ unknowns self.old }
         ensures { Acts (acting (gets side.now value.now)) result self.old self.new }

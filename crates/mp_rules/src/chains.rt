@@ -58,7 +58,7 @@ impl Evaluator {
     {
         let mut left = sides;
         'sides: while let Some(side) = left.pop() {
-            self.give(&side, value)?;
+            self.settle_side(&side, value)?;
         }
         Ok(())
     }

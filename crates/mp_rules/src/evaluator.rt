@@ -19,7 +19,7 @@ use std::alloc::Global;
 use std::marker::Model;
 
 /// So many primaries may be read inside one another.
-const NESTING_LIMIT: u32 = 100;
+pub const NESTING_LIMIT: u32 = 100;
 
 /// A run over a text: what is left to read, and what statements act on. Contracts see its machine.
 #[derive(Drop)]

@@ -13,7 +13,7 @@ use mp_values::{Stop, Word};
 use mp_vartree::{Part, Pattern, Shape, Suffix};
 
 /// A name may have so many parts behind its tag.
-const PART_LIMIT: u32 = 50;
+pub const PART_LIMIT: u32 = 50;
 
 impl Evaluator {
     /// Refuses one more part, behind so many, where that would be too many.
