@@ -12,7 +12,7 @@ use Rattle.mpost.specs.declared.top.End.TheVariants.{Usage, ReadFault, NoMemory}
 use Rattle.mpost.specs.declared.top.Report.{Report}
 use Rattle.mpost.specs.Delivery.{DeliverGives}
 use Rattle.mp_eval.specs.Gives.{Follows, ReadCause}
-use Rattle.mpost.specs.Headline.{Outside, ends, reported, own_end, line_of, end_after, end_said, IsReadFault, Says, KeepsNothing, OneLine, NoneRose, AllIsWritten, Ran, RunOutcome, UsageOutcome, course_of, ran, starved}
+use Rattle.mpost.specs.Headline.{Outside, outlets, reported, own_end, line_of, end_after, end_said, IsReadFault, Says, KeepsNothing, OneLine, NoneRose, AllIsWritten, Ran, ComesOfRun, ComesOfUsage, course_of, ran, starved}
 use Rattle.mp_values.specs.Outcome.{Refused, OutOfSteps, Unread}
 use Rattle.mp_files.specs.Outside.{Gained}
 use Rattle.mp_eval.specs.declared.outcome.Figure.{Figure}
@@ -31,14 +31,14 @@ keeps_nothing named report before now says = record {
 -- memory ran out, and its line was all that was written
 pub starved_by : (line : CommandLine) (report : Report) (before now : Outside)
     → before.files.faults ≤ now.files.faults → now.shelf ≡ before.shelf
-    → Says NoMemory report before.out now.out → RunOutcome line report before now
+    → Says NoMemory report before.out now.out → ComesOfRun line report before now
 starved_by line report before now later shelf says =
     starved says.0 later (keeps_nothing NoMemory report before.out now.out says) (record { end = ap (λ (r : Report). r.end) says.1; out = says.2; shelf = shelf })
 
 -- a word was refused, and its line was all that was written
 pub refused_by : (word : ℕ) (report : Report) (before now : Outside)
     → now.files ≡ before.files → now.shelf ≡ before.shelf
-    → Says (Usage word) report before.out now.out → UsageOutcome word report before now
+    → Says (Usage word) report before.out now.out → ComesOfUsage word report before now
 refused_by word report before now files shelf says =
     (files, keeps_nothing (Usage word) report before.out now.out says, (says.0, record { end = ap (λ (r : Report). r.end) says.1; out = says.2; shelf = shelf }))
 
@@ -54,7 +54,7 @@ pub record Reports (run : Run) (line : CommandLine) (at : Delivered) (report : R
 -- a run that follows its course, as it was reported and written
 ran_as : (course : Course) (line : CommandLine) (run : Run) (at : Delivered) (report : Report) (before now : Outside)
     → Follows run course before.files now.files → Reports run line at report
-    → DeliverGives run.lines run.figures (line_of run.sources (reported run.end)) (ends before) (ends now) at
+    → DeliverGives run.lines run.figures (line_of run.sources (reported run.end)) (outlets before) (outlets now) at
     → Ran course line at report before now
 ran_as course line run at report before now f r written = record {
   end = r.end ∙ ap (λ e. end_after at (reported e)) f.end;
@@ -64,8 +64,8 @@ ran_as course line run at report before now f r written = record {
 
 pub ran_by : (called : List ℕ) (line : CommandLine) (run : Run) (at : Delivered) (report : Report) (before now : Outside)
     → called ≡ line.name → Follows run (run_of run.sources [] called line.budget) before.files now.files → Reports run line at report
-    → DeliverGives run.lines run.figures (line_of run.sources (reported run.end)) (ends before) (ends now) at
-    → RunOutcome line report before now
+    → DeliverGives run.lines run.figures (line_of run.sources (reported run.end)) (outlets before) (outlets now) at
+    → ComesOfRun line report before now
 ran_by called line run at report before now is f r written =
     let P : List Kept → Type 0 = λ s. Ran (run_of s [] line.name line.budget) line at report before now in
     let Q : List ℕ → Type 0 = λ n. Follows run (run_of run.sources [] n line.budget) before.files now.files in
@@ -99,7 +99,7 @@ later_by run course before now follows = later_of course.ending before.faults no
 
 -- where the count of reads is greater than before, the end says so
 pub reads_counted_by : (line : CommandLine) (report : Report) (before now : Outside)
-    → RunOutcome line report before now → before.files.faults < now.files.faults → IsReadFault report.end
+    → ComesOfRun line report before now → before.files.faults < now.files.faults → IsReadFault report.end
 reads_counted_by line report before now (ran at r) more =
     let P : End → Type 0 = λ e. IsReadFault e in
     subst P (sym r.end) (unread_alone (course_of line report).ending at before.files.faults now.files.faults r.follows.cause more)
@@ -110,7 +110,7 @@ reads_counted_by line report before now (starved at later nothing said) more =
 -- WHERE NOTHING FAILED
 
 written_all : (lines : List ℕ) (figures : List Figure) (line : List ℕ) (before now : Outside) (at : Delivered) → NoneRose before now
-    → DeliverGives lines figures line (ends before) (ends now) at → Gained before.out.bytes now.out.bytes (lines ++ line)
+    → DeliverGives lines figures line (outlets before) (outlets now) at → Gained before.out.bytes now.out.bytes (lines ++ line)
 written_all lines figures line before now delivered.All none written = written.out
 written_all lines figures line before now delivered.LinesFailed none written = absurd (none.out written.counted)
 written_all lines figures line before now delivered.PutFailed none written = absurd (none.shelf written.counted)

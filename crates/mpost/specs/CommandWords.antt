@@ -16,7 +16,7 @@ pub record CommandLine : Type 0 where
 
 -- refused at a word, counted from 1, or a command line
 pub data Words : Type 0 where
-  Refused : ℕ → Words
+  RefusedAt : ℕ → Words
   Accepted : CommandLine → Words
 
 -- a word names a file: it is not empty, has visible bytes alone, and does not begin with `-`
@@ -42,13 +42,13 @@ run_of_file file = record { name = name_of_file file; budget = DEFAULT_BUDGET; s
 
 abbrev pub no_more : List ℕ → List (List ℕ) → Words
 no_more file [] = Accepted (run_of_file file)
-no_more file (word ∷ words) = Refused 3
+no_more file (word ∷ words) = RefusedAt 3
 
 abbrev pub file_words : List (List ℕ) → Words
-file_words [] = Refused 2
-file_words (file ∷ words) = if is_file file then no_more file words else Refused 2
+file_words [] = RefusedAt 2
+file_words (file ∷ words) = if is_file file then no_more file words else RefusedAt 2
 
 -- the words are exactly `--bare FILE`
 abbrev pub words_of : List (List ℕ) → Words
-words_of [] = Refused 1
-words_of (word ∷ words) = if bytes_eq word (codes "--bare") then file_words words else Refused 1
+words_of [] = RefusedAt 1
+words_of (word ∷ words) = if bytes_eq word (codes "--bare") then file_words words else RefusedAt 1

@@ -15,19 +15,19 @@ abbrev pub pair_of : Figure → List ℕ × List ℕ
 pair_of figure = (figure.name, figure.bytes)
 
 -- shelf and sink
-pub record Ends : Type 0 where
+pub record Outlets : Type 0 where
   pub shelf : ShelfSeen
   pub out : SinkSeen
 
 -- all was written
-pub record WroteAll (lines : List ℕ) (figures : List Figure) (line : List ℕ) (before now : Ends) : Type 0 where
+pub record WroteAll (lines : List ℕ) (figures : List Figure) (line : List ℕ) (before now : Outlets) : Type 0 where
   pub shelf_count : now.shelf.faults ≡ before.shelf.faults
   pub out_count : now.out.faults ≡ before.out.faults
   pub shelf : Gained before.shelf.pairs now.shelf.pairs (map pair_of figures)
   pub out : Gained before.out.bytes now.out.bytes (lines ++ line)
 
 -- the lines failed, which is never where there are none: a part of them was written, and no figure
-pub record LinesBroke (lines : List ℕ) (before now : Ends) : Type 0 where
+pub record LinesBroke (lines : List ℕ) (before now : Outlets) : Type 0 where
   pub some : lines ≢ []
   pub counted : Rose before.out.faults now.out.faults
   pub shelf : now.shelf ≡ before.shelf
@@ -40,13 +40,13 @@ Tried lines line before now =
     ⊎ (Rose before.faults now.faults × ((n : ℕ) × Gained before.bytes now.bytes (lines ++ take n line)))
 
 -- a figure failed: all lines and the figures before it were written, and the line of the fault was tried
-pub record PutBroke (lines : List ℕ) (figures : List Figure) (before now : Ends) : Type 0 where
+pub record PutBroke (lines : List ℕ) (figures : List Figure) (before now : Outlets) : Type 0 where
   pub counted : Rose before.shelf.faults now.shelf.faults
   pub shelf : (m : ℕ) × (m < length figures) × Gained before.shelf.pairs now.shelf.pairs (map pair_of (take m figures))
   pub out : Tried lines fault_line before.out now.out
 
 -- the line of the end failed, which is never where it is empty: all else was written
-pub record LineBroke (lines : List ℕ) (figures : List Figure) (line : List ℕ) (before now : Ends) : Type 0 where
+pub record LineBroke (lines : List ℕ) (figures : List Figure) (line : List ℕ) (before now : Outlets) : Type 0 where
   pub some : line ≢ []
   pub counted : Rose before.out.faults now.out.faults
   pub shelf_count : now.shelf.faults ≡ before.shelf.faults
@@ -54,7 +54,7 @@ pub record LineBroke (lines : List ℕ) (figures : List Figure) (line : List ℕ
   pub out : (n : ℕ) × Gained before.out.bytes now.out.bytes (lines ++ take n line)
 
 -- what was written, by how far it came
-abbrev pub DeliverGives : List ℕ → List Figure → List ℕ → Ends → Ends → Delivered → Type 0
+abbrev pub DeliverGives : List ℕ → List Figure → List ℕ → Outlets → Outlets → Delivered → Type 0
 DeliverGives lines figures line before now All = WroteAll lines figures line before now
 DeliverGives lines figures line before now LinesFailed = LinesBroke lines before now
 DeliverGives lines figures line before now PutFailed = PutBroke lines figures before now

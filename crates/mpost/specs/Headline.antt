@@ -7,8 +7,8 @@ use Rattle.mp_files.specs.Counts.{Rose}
 use Rattle.mp_files.specs.Outside.{Asked, Gained, WriteGives}
 use Rattle.mp_files.specs.Seen.{FilesSeen, ShelfSeen, SinkSeen}
 use Rattle.mp_report.specs.Line.{error_line}
-use Rattle.mpost.specs.CommandWords.{CommandLine, Words, Refused, Accepted}
-use Rattle.mpost.specs.Delivery.{Ends, DeliverGives}
+use Rattle.mpost.specs.CommandWords.{CommandLine, Words, RefusedAt, Accepted}
+use Rattle.mpost.specs.Delivery.{Outlets, DeliverGives}
 use Rattle.mp_eval.specs.Gives.{run_end_of, ReadCause, NamesAsked}
 use Rattle.mp_eval.specs.Run.{Course, Ending, run_of}
 use Rattle.mpost.specs.declared.deliver.Delivered.{Delivered}
@@ -25,8 +25,8 @@ pub record Outside : Type 0 where
   pub shelf : ShelfSeen
   pub out : SinkSeen
 
-abbrev pub ends : Outside → Ends
-ends o = record { shelf = o.shelf; out = o.out }
+abbrev pub outlets : Outside → Outlets
+outlets o = record { shelf = o.shelf; out = o.out }
 
 -- an end of a run as the report has it
 abbrev pub reported : RunEnd → End
@@ -113,28 +113,28 @@ Says named report before now = (at : Written)
 pub record Ran (course : Course) (line : CommandLine) (at : Delivered) (report : Report) (before now : Outside) : Type 0 where
   pub end : report.end ≡ end_after at (own_end course.ending)
   pub follows : FollowsCourse course line report before.files now.files
-  pub written : DeliverGives course.lines course.figures (line_of report.sources (own_end course.ending)) (ends before) (ends now) at
+  pub written : DeliverGives course.lines course.figures (line_of report.sources (own_end course.ending)) (outlets before) (outlets now) at
 
 -- the course of the sources that the report keeps; nothing is loaded before the main file
 abbrev pub course_of : CommandLine → Report → Course
 course_of line report = run_of report.sources [] line.name line.budget
 
 -- what comes of a run, by the course of the sources that it read
-pub data RunOutcome (line : CommandLine) (report : Report) (before now : Outside) : Type 0 where
+pub data ComesOfRun (line : CommandLine) (report : Report) (before now : Outside) : Type 0 where
   -- the run goes by its course
-  ran : (at : Delivered) → Ran (course_of line report) line at report before now → RunOutcome line report before now
+  ran : (at : Delivered) → Ran (course_of line report) line at report before now → ComesOfRun line report before now
   -- memory ran out
-  starved : (at : Written) → before.files.faults ≤ now.files.faults → KeepsNothing report → OneLine NoMemory at report before now → RunOutcome line report before now
+  starved : (at : Written) → before.files.faults ≤ now.files.faults → KeepsNothing report → OneLine NoMemory at report before now → ComesOfRun line report before now
 
 -- a refused command line: nothing is read, and one line is written
-abbrev pub UsageOutcome : ℕ → Report → Outside → Outside → Type 0
-UsageOutcome word report before now =
+abbrev pub ComesOfUsage : ℕ → Report → Outside → Outside → Type 0
+ComesOfUsage word report before now =
     (now.files ≡ before.files) × KeepsNothing report × ((at : Written) × OneLine (Usage word) at report before now)
 
 -- the headline: by the words, and by the meaning of the sources that were read
-abbrev pub Outcome : Words → Report → Outside → Outside → Type 0
-Outcome (Refused word) report before now = UsageOutcome word report before now
-Outcome (Accepted line) report before now = RunOutcome line report before now
+abbrev pub ComesOf : Words → Report → Outside → Outside → Type 0
+ComesOf (RefusedAt word) report before now = ComesOfUsage word report before now
+ComesOf (Accepted line) report before now = ComesOfRun line report before now
 
 -- none of the counts rose
 pub record NoneRose (before now : Outside) : Type 0 where
@@ -150,7 +150,7 @@ IsOwn own WriteFault = ⊥
 IsOwn own end = end ≡ own
 
 abbrev pub IsOwnEnd : Words → Report → Type 0
-IsOwnEnd (Refused word) report = report.end ≡ Usage word
+IsOwnEnd (RefusedAt word) report = report.end ≡ Usage word
 IsOwnEnd (Accepted line) report = IsOwn (own_end (course_of line report).ending) report.end
 
 -- one of the two counts of writes is greater than before
@@ -166,5 +166,5 @@ IsReadFault end = ⊥
 
 -- where no count rose and memory was found, the sink gained the lines of the course and the line of its end
 abbrev pub AllIsWritten : Type 0
-AllIsWritten = (line : CommandLine) (report : Report) (before now : Outside) → RunOutcome line report before now → NoneRose before now → report.end ≢ NoMemory
+AllIsWritten = (line : CommandLine) (report : Report) (before now : Outside) → ComesOfRun line report before now → NoneRose before now → report.end ≢ NoMemory
     → Gained before.out.bytes now.out.bytes ((course_of line report).lines ++ line_of report.sources (own_end (course_of line report).ending))

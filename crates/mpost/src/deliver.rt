@@ -3,7 +3,7 @@
 ghost use Rattle.std.specs.Prelude.{◌≡◌, []};
 ghost use Rattle.std.specs.Bool.{MatchBool};
 ghost use Rattle.mp_files.specs.Outside.{WriteGives};
-ghost use Rattle.mpost.specs.Delivery.{Ends, DeliverGives, Tried, PutsGive, PutsBreak};
+ghost use Rattle.mpost.specs.Delivery.{Outlets, DeliverGives, Tried, PutsGive, PutsBreak};
 
 use mp_eval::Figure;
 use mp_files::{Shelf, Sink, Stored, Written};
@@ -65,8 +65,8 @@ pub fn deliver<S: Shelf, O: Sink>(
     shelf: &mut S,
     out: &mut O,
 ) -> Delivered
-    ensures { let before : Ends = record { shelf = S.seen shelf.old; out = O.seen out.old } in
-        let now : Ends = record { shelf = S.seen shelf.new; out = O.seen out.new } in
+    ensures { let before : Outlets = record { shelf = S.seen shelf.old; out = O.seen out.old } in
+        let now : Outlets = record { shelf = S.seen shelf.new; out = O.seen out.new } in
         DeliverGives lines.now figures.now line.now before now result }
 {
     match write(lines, out) {

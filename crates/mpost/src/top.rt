@@ -7,7 +7,7 @@ ghost use Rattle.mp_files.specs.Counts.{Rose};
 ghost use Rattle.mpost.specs.CommandWords.{words_of, run_of_file};
 ghost use Rattle.mp_eval.specs.Gives.{AreGiven};
 ghost use Rattle.mpost.specs.Headline as headline;
-ghost use Rattle.mpost.specs.Headline.{Outside, Outcome, RunOutcome, NoneRose, IsOwnEnd, WritesCounted, IsReadFault, Says, line_of, name_of_source};
+ghost use Rattle.mpost.specs.Headline.{Outside, ComesOf, ComesOfRun, NoneRose, IsOwnEnd, WritesCounted, IsReadFault, Says, line_of, name_of_source};
 
 use crate::deliver::{Delivered, deliver, write};
 use crate::words::{Command, DEFAULT_BUDGET, name_of_file, read_words};
@@ -144,21 +144,15 @@ fn usage_line(word: u32, line: &mut [u8; 32]) -> usize
 }
 
 /// The line of an end of a run over these sources.
-fn end_line(alloc: Global, sources: &[Kept], end: &End) -> Result<Bytes, NoMemory>
-    ensures { IfOk result (λ line. line ≡ line_of sources.now end.now) }
+fn end_line(alloc: Global, sources: &[Kept], end: &RunEnd) -> Result<Bytes, NoMemory>
+    ensures { IfOk result (λ line. line ≡ line_of sources.now (headline.reported end.now)) }
 {
     match end {
-        End::Done => Ok(Bytes::new(alloc)),
-        End::Source(error, place) => source_line(alloc, sources, error, place),
-        End::OutOfSteps => Bytes::copy_of(alloc, b"mpost: out of steps\n"),
-        End::Usage(word) => {
-            let mut line = [0; 32];
-            let length = usage_line(*word, &mut line);
-            Bytes::copy_of(alloc, &line[..length])
-        }
-        End::ReadFault => Bytes::copy_of(alloc, b"mpost: read fault\n"),
-        End::WriteFault => Bytes::copy_of(alloc, b"mpost: write fault\n"),
-        End::NoMemory => Bytes::copy_of(alloc, MEMORY_LINE),
+        RunEnd::Done => Ok(Bytes::new(alloc)),
+        RunEnd::Source(error, place) => source_line(alloc, sources, error, place),
+        RunEnd::OutOfSteps => Bytes::copy_of(alloc, b"mpost: out of steps\n"),
+        RunEnd::ReadFault => Bytes::copy_of(alloc, b"mpost: read fault\n"),
+        RunEnd::NoMemory => Bytes::copy_of(alloc, MEMORY_LINE),
     }
 }
 
@@ -228,7 +222,7 @@ pub fn mpost_main<F: Files, S: Shelf, O: Sink>(
     // what comes of it, by the words and the meaning of these sources
     ensures headline { let before : Outside = record { files = F.seen files.old; shelf = S.seen shelf.old; out = O.seen out.old } in
         let now : Outside = record { files = F.seen files.new; shelf = S.seen shelf.new; out = O.seen out.new } in
-        Outcome (words_of (map string_bytes words.now)) result before now }
+        ComesOf (words_of (map string_bytes words.now)) result before now }
     ensures main { result.main ≡ min 1 (length result.sources) }
     ensures status { result.status ≡ headline.status_of result.end }
     ensures within { result.steps ≤ result.budget }
@@ -289,7 +283,7 @@ fn run_and_write<F: Files, S: Shelf, O: Sink>(
     ensures spent { result.end ≡ End.OutOfSteps → result.steps ≡ result.budget }
     ensures headline { let before : Outside = record { files = F.seen files.old; shelf = S.seen shelf.old; out = O.seen out.old } in
         let now : Outside = record { files = F.seen files.new; shelf = S.seen shelf.new; out = O.seen out.new } in
-        RunOutcome (run_of_file file.now) result before now }
+        ComesOfRun (run_of_file file.now) result before now }
 {
     let Ok(name) = name_of_file(alloc, file) else {
         return say(alloc, MEMORY_LINE, End::NoMemory, out);
@@ -306,10 +300,10 @@ fn run_and_write<F: Files, S: Shelf, O: Sink>(
     if is_starved(&end) {
         return say(alloc, MEMORY_LINE, End::NoMemory, out);
     }
-    let own = reported(end);
-    let Ok(line) = end_line(alloc, sources.as_slice(), &own) else {
+    let Ok(line) = end_line(alloc, sources.as_slice(), &end) else {
         return say(alloc, MEMORY_LINE, End::NoMemory, out);
     };
+    let own = reported(end);
     let at = deliver(
         lines.as_slice(),
         figures.as_slice(),
