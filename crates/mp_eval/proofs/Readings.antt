@@ -32,7 +32,8 @@ passes n h = grind (arith, nat_tests)
 abbrev read_by : Bool → List ℕ → List ℕ → Machine → Outcome (Unit {0})
 read_by short prelude bytes s = (room_by short >>= (λ room. change (λ t. put_prelude prelude (put_file 1 bytes t)) >>= (λ begun. whole the))) s
 
-short_is : (prelude bytes : List ℕ) (s : Machine) → length bytes ≤ LONGEST_TEXT → read_to_end prelude bytes s ≡ whole the (put_prelude prelude (put_file 1 bytes s))
+short_is : (prelude bytes : List ℕ) (s : Machine) → length bytes ≤ LONGEST_TEXT
+    → read_to_end prelude bytes s ≡ whole the (put_prelude prelude (put_file 1 bytes s))
 short_is prelude bytes s h = ap (λ b. read_by b prelude bytes s) (fits (length bytes) h)
 
 long_is : (prelude bytes : List ℕ) (s : Machine) → LONGEST_TEXT < length bytes → read_to_end prelude bytes s ≡ Err (not_built (codes "long"), s)
@@ -89,13 +90,15 @@ begins kept sources [] bytes read budget first middle last nothing text more pla
 begins kept sources (byte ∷ prelude) bytes read budget first middle last nothing text more place m a n r k b c d e = rw (e, d, c.1, c.0, b.1, b.0, a, n, r, k) refl
 
 -- what was read of a text, if memory was found
-pub short_result : (prelude name bytes : List ℕ) (budget : ℕ) (result : Result Run NoMemory) (begun : Machine) → length bytes ≤ LONGEST_TEXT → begun ≡ begun_on (only name (Here bytes)) prelude bytes budget
+pub short_result : (prelude name bytes : List ℕ) (budget : ℕ) (result : Result Run NoMemory) (begun : Machine) → length bytes ≤ LONGEST_TEXT
+    → begun ≡ begun_on (only name (Here bytes)) prelude bytes budget
     → IfOk result (λ run. RanAs run (whole the begun) begun)
     → IfOk result (λ run. RanAs run (read_to_end prelude bytes (asked_on (only name (Here bytes)) budget)) (asked_on (only name (Here bytes)) budget))
 short_result prelude name bytes budget (Ok run) begun short is ran = short_ran prelude name bytes budget run short (subst (λ (m : Machine). RanAs run (whole the m) m) is ran)
 short_result prelude name bytes budget (Err e) begun short is ran = tt
 
-pub within_result : (prelude name bytes : List ℕ) (budget : ℕ) (result : Result Run NoMemory) (begun : Machine) → begun ≡ begun_on (only name (Here bytes)) prelude bytes budget
+pub within_result : (prelude name bytes : List ℕ) (budget : ℕ) (result : Result Run NoMemory) (begun : Machine)
+    → begun ≡ begun_on (only name (Here bytes)) prelude bytes budget
     → IfOk result (λ run. run.steps ≤ begun.budget) → IfOk result (λ run. run.steps ≤ budget)
 within_result prelude name bytes budget (Ok run) begun is within =
     let same : begun.budget ≡ budget = ap (λ (m : Machine). m.budget) is ∙ same_budget prelude bytes (asked_on (only name (Here bytes)) budget) in

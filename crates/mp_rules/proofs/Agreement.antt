@@ -23,7 +23,8 @@ pub record Agree {A : Type 0} (o p : Outcome A) (P : A → Machine → Type 0) :
   pub went : After o P
 
 -- one after another
-pub agree-then : {A B : Type 0} {o p : Outcome A} {P : A → Machine → Type 0} {Q : B → Machine → Type 0} {f g : A → Rule B} → Agree o p P → ((x : A) (t : Machine) → P x t → Agree (f x t) (g x t) Q) → Agree (then o f) (then p g) Q
+pub agree-then : {A B : Type 0} {o p : Outcome A} {P : A → Machine → Type 0} {Q : B → Machine → Type 0} {f g : A → Rule B} → Agree o p P
+    → ((x : A) (t : Machine) → P x t → Agree (f x t) (g x t) Q) → Agree (then o f) (then p g) Q
 agree-then {A = A} {B = B} {o = Ok x} {p = p} {P = P} {Q = Q} {f = f} {g = g} a k =
     let F : Outcome A → Type 0 = λ q. Agree (f x.0 x.1) (then q g) Q in
     subst F a.same (k x.0 x.1 a.went)

@@ -24,7 +24,8 @@ again : {A : Type 0} (s : Machine) (a : State) (o : act.Outcome State A) → in_
 again s a (Ok x) = refl
 again s a (Err e) = refl
 
-acting-then : {A B : Type 0} (s : Machine) (o : act.Outcome State A) (f : A → act.Rule State B) → in_machine s ((then) o f) ≡ (then) (in_machine s o) (λ x. acting (f x))
+acting-then : {A B : Type 0} (s : Machine) (o : act.Outcome State A) (f : A → act.Rule State B)
+    → in_machine s ((then) o f) ≡ (then) (in_machine s o) (λ x. acting (f x))
 acting-then s (Ok x) f = again s x.1 (f x.0 x.1)
 acting-then s (Err e) f = refl
 
@@ -32,7 +33,8 @@ settle_step : (xs : List Side) (x : Side) (v : Value) (s : Machine) → acting (
 unfolding settle
 settle_step xs x v s = acting-then s (gets x v s.acts) (λ done. settle xs v)
 
-pub settle_last : (xs : List Side) (x : Side) (v : Value) (s : Machine) → acting (settle (reverse (xs ++ x ∷ [])) v) s ≡ (then) (acting (gets x v) s) (λ done. acting (settle (reverse xs) v))
+pub settle_last : (xs : List Side) (x : Side) (v : Value) (s : Machine)
+    → acting (settle (reverse (xs ++ x ∷ [])) v) s ≡ (then) (acting (gets x v) s) (λ done. acting (settle (reverse xs) v))
 settle_last xs x v s = rw reverse_last (settle_step (reverse xs) x v s)
 
 pub settle_none : (v : Value) (s : Machine) → acting (settle (reverse []) v) s ≡ Ok (tt, s)
