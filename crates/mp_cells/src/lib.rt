@@ -1,7 +1,8 @@
 //! How the terms of linear forms are multiplied and added, and a pool that holds many lists of them.
 //!
-//! No program stands on this crate yet. It becomes `mp_pool` when the solver stands on it; the struct `Term`, all that
-//! `mp_pool` has today, is then this crate's own.
+//! No program stands on this crate yet. It becomes `mp_pool` when the solver stands on it: the struct `Term`, all that
+//! `mp_pool` has today, then moves here. `Ratio`, `push_each`, the sums of lists and their definitions stand in
+//! `mp_forms` too, which then takes them from here.
 #![tactic(auto)]
 
 mod cells;
