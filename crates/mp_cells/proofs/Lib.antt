@@ -1,0 +1,16 @@
+pub mod RatioLemmas
+pub mod TermLemmas
+pub mod Totals
+pub mod Shifting
+pub mod Seen
+pub mod Writing
+pub mod Trading
+pub mod Twos
+pub mod Merging
+pub mod MergeLemmas
+pub mod Growing
+pub mod Fitting
+pub mod SlotLemmas
+pub mod ListLemmas
+pub mod PoolLemmas
+pub mod RoomLemmas

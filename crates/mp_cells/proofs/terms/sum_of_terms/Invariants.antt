@@ -1,0 +1,10 @@
+use Rattle.std.proofs.Common.{◌+◌, length}
+use Rattle.mp_cells.specs.Ratios.{ratio_times}
+use Rattle.mp_cells.proofs.TermLemmas.{IsMerging}
+use Rattle.mp_cells.proofs.terms.sum_of_terms.Given as goal
+
+abbrev pub invariant-merge : goal.invariant-merge
+invariant-merge l = IsMerging (ratio_times l.ratio.numerator l.ratio.denominator) l.left l.right l.sum.items l.on_left l.on_right
+
+abbrev pub decreases-merge : goal.decreases-merge
+decreases-merge l = length l.on_left + length l.on_right
