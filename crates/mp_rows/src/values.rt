@@ -5,7 +5,7 @@ use mp_report::{Place, SourceError};
 use mp_scaled::{Arith, Listing, NoMemory, Shared, SharedSlice};
 use mp_tokens::{BadToken, FreshMeaning, Token};
 use mp_values::{
-    Command, Fault, Item, Meaning, Remaining, Scaled, Stop, UnbuiltWord, Value, Values, Word,
+    Command, Fault, Item, Meaning, Remaining, Scaled, Stop, UnbuiltWord, Value, Values,
 };
 use std::alloc::Global;
 use std::fmt::Debug;
@@ -95,25 +95,6 @@ fn an_item_with_text(rt: HostRuntime) -> Result<(), Fail> {
     match &item {
         Item::Text(bytes) if bytes.as_slice() == b"ab".as_slice() => Ok(()),
         _ => Err(Fail::new("no text")),
-    }
-}
-
-/// The names of all words, in their order.
-const NAMES: &str =
-    "+ - * / , ; = := [ ] str begingroup endgroup end show save interim let delimiters newinternal \
-message errmessage errhelp batchmode scrollmode nonstopmode errorstopmode boolean numeric string";
-
-#[test]
-fn words(_rt: HostRuntime) -> Result<(), Fail> {
-    let mut names = NAMES.split_whitespace();
-    for word in &Word::ALL {
-        if names.next().map(|name| name.as_bytes()) != Some(word.name()) {
-            return Err(Fail::new("the name of a word"));
-        }
-    }
-    match names.next() {
-        None => Ok(()),
-        Some(_) => Err(Fail::new("a name of no word")),
     }
 }
 
