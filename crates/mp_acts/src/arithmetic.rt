@@ -51,12 +51,13 @@ impl State {
         }
     }
 
-    /// The sum or the difference of two numbers: `WrongType`, `Overflow`, `CoefficientTooLarge`.
+    /// The sum or the difference of two numbers: `WrongType`, `Overflow`, `CoefficientTooLarge`. The first is given up
+    /// for it: a new unknown is put before the terms of a long sum, and none of them is copied.
     #[tactic(auto, unfolding(crate::specs::Arithmetic::tertiary))]
-    pub fn tertiary(&self, op: Tertiary, left: &Value, right: &Value) -> Result<Value, Fault>
-        requires left { reach left.now ≤ unknown_count self.now }
+    pub fn tertiary(&self, op: Tertiary, left: Value, right: &Value) -> Result<Value, Fault>
+        requires left { reach left ≤ unknown_count self.now }
         requires right { reach right.now ≤ unknown_count self.now }
-        ensures exact { Gives result self.now (arithmetic.tertiary op left.now right.now self.now) }
+        ensures exact { Gives result self.now (arithmetic.tertiary op left right.now self.now) }
         ensures within { IfOk result (λ v. reach v ≤ unknown_count self.now) }
     {
         match op {
@@ -105,23 +106,23 @@ impl State {
     }
 
     #[tactic(auto, unfolding(crate::specs::Arithmetic::sum))]
-    fn sum(&self, left: &Value, right: &Value) -> Result<Value, Fault>
-        requires left { reach left.now ≤ unknown_count self.now }
+    fn sum(&self, left: Value, right: &Value) -> Result<Value, Fault>
+        requires left { reach left ≤ unknown_count self.now }
         requires right { reach right.now ≤ unknown_count self.now }
-        ensures exact { Gives result self.now (arithmetic.sum left.now right.now self.now) }
+        ensures exact { Gives result self.now (arithmetic.sum left right.now self.now) }
         ensures within { IfOk result (λ v. reach v ≤ unknown_count self.now) }
     {
-        Ok(Value::Numeric(self.combined(b"+", ONE, left, right)?))
+        Ok(Value::Numeric(self.joined(b"+", ONE, left, right)?))
     }
 
     #[tactic(auto, unfolding(crate::specs::Arithmetic::difference))]
-    fn difference(&self, left: &Value, right: &Value) -> Result<Value, Fault>
-        requires left { reach left.now ≤ unknown_count self.now }
+    fn difference(&self, left: Value, right: &Value) -> Result<Value, Fault>
+        requires left { reach left ≤ unknown_count self.now }
         requires right { reach right.now ≤ unknown_count self.now }
-        ensures exact { Gives result self.now (arithmetic.difference left.now right.now self.now) }
+        ensures exact { Gives result self.now (arithmetic.difference left right.now self.now) }
         ensures within { IfOk result (λ v. reach v ≤ unknown_count self.now) }
     {
-        Ok(Value::Numeric(self.difference_by(b"-", left, right)?))
+        Ok(Value::Numeric(self.joined(b"-", -ONE, left, right)?))
     }
 
     /// The difference of two numbers, for that operator.
@@ -152,6 +153,20 @@ impl State {
     {
         let (p, q) = self.operands(op, left, right)?;
         Ok(p.add_times(self.alloc, f, &q)??)
+    }
+
+    /// The same of a first number that is given up for it.
+    #[tactic(auto, unfolding(crate::specs::Arithmetic::combined))]
+    fn joined(&self, op: &[u8], f: i64, left: Value, right: &Value) -> Result<Form, Fault>
+        requires factor { unsigned_abs f < 2 ^ 44 }
+        requires left { reach left ≤ unknown_count self.now }
+        requires right { reach right.now ≤ unknown_count self.now }
+        ensures exact { Gives result self.now
+            (arithmetic.combined op.now f left right.now self.now) }
+        ensures within { IfOk result (λ p. reach_of_form p ≤ unknown_count self.now) }
+    {
+        let (p, q) = self.owned_operands(op, left, right)?;
+        Ok(p.into_sum(f, &q)??)
     }
 
     /// The product of two numbers, one of which must be known.

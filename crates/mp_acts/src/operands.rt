@@ -22,6 +22,15 @@ impl State {
         Ok(self.system.reduce(self.alloc, form)??)
     }
 
+    /// The same of a form that is given up for it: one that is up to date already is not copied.
+    fn owned_up_to_date(&self, form: Form) -> Result<Form, Fault>
+        requires { reach_of_form form ≤ unknown_count self.now }
+        ensures exact { Gives result self.now (operands.up_to_date form self.now) }
+        ensures within { IfOk result (λ p. reach_of_form p ≤ unknown_count self.now) }
+    {
+        Ok(self.system.reduce_owned(self.alloc, form)??)
+    }
+
     /// The form of a number, brought up to date.
     #[tactic(auto, unfolding(crate::specs::Operands::operand))]
     pub(crate) fn operand(&self, op: &[u8], value: &Value) -> Result<Form, Fault>
@@ -52,6 +61,29 @@ impl State {
         match (left, right) {
             (Value::Numeric(left), Value::Numeric(right)) => {
                 let p = self.up_to_date(left)?;
+                let q = self.up_to_date(right)?;
+                Ok((p, q))
+            }
+            _ => Err(Fault::wrong_type(self.alloc, op)),
+        }
+    }
+
+    /// The same of two numbers of which the first is given up for it.
+    pub(crate) fn owned_operands(
+        &self,
+        op: &[u8],
+        left: Value,
+        right: &Value,
+    ) -> Result<(Form, Form), Fault>
+        requires left { reach left ≤ unknown_count self.now }
+        requires right { reach right.now ≤ unknown_count self.now }
+        ensures exact { Gives result self.now (arithmetic.operands op.now left right.now self.now) }
+        ensures within_left { IfOk result (λ both. reach_of_form both.0 ≤ unknown_count self.now) }
+        ensures within_right { IfOk result (λ both. reach_of_form both.1 ≤ unknown_count self.now) }
+    {
+        match (left, right) {
+            (Value::Numeric(left), Value::Numeric(right)) => {
+                let p = self.owned_up_to_date(left)?;
                 let q = self.up_to_date(right)?;
                 Ok((p, q))
             }

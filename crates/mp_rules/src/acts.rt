@@ -56,7 +56,7 @@ impl Evaluator {
         requires right { reach right ≤ unknowns self.now }
         ensures { ActsValue (acting (arithmetic.tertiary operator left right)) result self.now self.now }
     {
-        Ok(self.acts.tertiary(operator, &left, &right)?)
+        Ok(self.acts.tertiary(operator, left, &right)?)
     }
 
     /// A number token.
