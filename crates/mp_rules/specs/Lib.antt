@@ -1,4 +1,5 @@
 pub mod Machine
+pub mod Reach
 pub mod Fronts
 pub mod Steps
 pub mod Chains

@@ -7,6 +7,8 @@ ghost use Rattle.mp_rules.specs.Promises.{Acts, Took};
 ghost use Rattle.mp_rules.specs.Starts.{start_on, whole};
 ghost use Rattle.mp_rules.specs.Meaning.{the};
 ghost use Rattle.mp_rules.specs.Steps as steps;
+ghost use Rattle.mp_rules.specs.Reach.{reach_of_text};
+ghost use Rattle.mp_acts.specs.State.{unknown_count};
 
 use crate::front::{Front, Raw};
 use mp_acts::State;
@@ -56,7 +58,10 @@ impl Model for Evaluator {
       acts = r.acts;
     } };
 
-    ghost invariant = { λ r. r.steps ≤ r.budget };
+    ghost use Rattle.mp_acts.specs.State.{unknown_count};
+    ghost use Rattle.mp_rules.specs.Reach.{reach_of_text};
+
+    ghost invariant = { λ r. (r.steps ≤ r.budget) × (reach_of_text r.input.text ≤ unknown_count r.acts) };
 }
 
 /// What a run leaves.
@@ -72,6 +77,7 @@ pub struct Finished {
 impl Evaluator {
     /// An evaluator at the start of a text. Each source was asked for once.
     pub fn new(alloc: Global, sources: Sources, input: Input, acts: State, budget: u64) -> Evaluator
+        requires { reach_of_text input.text ≤ unknown_count acts }
         ensures { result ≡ start_on sources input.text input.last acts budget }
     {
         Evaluator {
