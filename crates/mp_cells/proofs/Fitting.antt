@@ -5,7 +5,7 @@ use Rattle.std.proofs.lemmas.Bool.Decides.{nat_tests}
 use Rattle.std.proofs.lemmas.Bool.{cases_lt, ltb-true, lt-ltb}
 use Rattle.std.proofs.lemmas.List.Elements.{All-nil, All-cons}
 use Rattle.mp_pool.specs.declared.Term.{Term}
-use Rattle.mp_cells.specs.Terms.{AreTerms, AreOrdered, HasTooLarge}
+use Rattle.mp_forms.specs.Terms.{AreTerms, AreOrdered, HasTooLarge}
 use Rattle.mp_cells.specs.Storage.Merge.{merge, kept, FrontBelow, IsSmall, small, are_small, AreSmall}
 use Rattle.mp_cells.proofs.Merging.{merge-greater, merge-same, merge-new, merge-nil}
 

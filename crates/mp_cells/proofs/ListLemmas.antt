@@ -2,7 +2,8 @@
 use Rattle.std.proofs.Common.{◌≡◌, ◌≢◌, ℕ, ◌<◌, ℤ, List, [], ◌∷◌, ◌++◌, Some, None, take, drop, append_assoc, refl, sym, ap, arith}
 use Rattle.std.proofs.lemmas.Bool.{eq-eqb, ne_eqb}
 use Rattle.mp_pool.specs.declared.Term.{Term}
-use Rattle.mp_cells.specs.Terms.{without, term_of, SerialsDecrease}
+use Rattle.mp_forms.specs.Terms.{SerialsDecrease}
+use Rattle.mp_cells.specs.Terms.{without, term_of}
 use Rattle.mp_cells.specs.Storage.Merge.{FrontBelow}
 
 drop-decrease : (n : ℕ) (ts : List Term) → SerialsDecrease n ts → SerialsDecrease n (drop 1 ts)

@@ -2,7 +2,7 @@
 use Rattle.std.proofs.Common.{◌≡◌, ℕ, ℤ, ◌+ℤ◌, unsigned_abs, Bool, true, false, cond, ltb, List, [], ◌∷◌, ◌++◌, refl, sym, ap, ◌∙◌, inl, inr}
 use Rattle.std.proofs.lemmas.Bool.{cases_order}
 use Rattle.mp_pool.specs.declared.Term.{Term}
-use Rattle.mp_cells.specs.Terms.{term_from, joint_term, lone_term, changed_terms, sum_terms, SerialsDecrease}
+use Rattle.mp_forms.specs.Terms.{term_from, joint_term, lone_term, changed_terms, sum_terms, SerialsDecrease}
 use Rattle.mp_cells.specs.Storage.Merge.{merge, products, kept}
 use Rattle.mp_cells.proofs.TermLemmas.{sum_terms-left, sum_terms-right, sum_terms-both, sum_terms-none}
 use Rattle.mp_cells.proofs.Merging.{merge-greater, merge-same, merge-new, merge-nil}

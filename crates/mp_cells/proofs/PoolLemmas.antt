@@ -8,7 +8,7 @@ use Rattle.std.proofs.lemmas.List.Sums.{sum_by-set, count_by-le-length}
 use Rattle.std.proofs.Math.ListN.{get_or-append}
 use Rattle.std.proofs.Math.Seq.{get_or-append_seam}
 use Rattle.mp_pool.specs.declared.Term.{Term}
-use Rattle.mp_cells.specs.Terms.{AreTerms, IsCoefficient}
+use Rattle.mp_forms.specs.Terms.{AreTerms, IsCoefficient}
 use Rattle.mp_cells.specs.Pool.{Pool, list_in, with_list, without_list}
 use Rattle.mp_cells.specs.Storage.Chains.{chain_of}
 use Rattle.mp_cells.specs.Storage.Frames.{OnlyTwo}

@@ -6,7 +6,7 @@ use Rattle.std.proofs.lemmas.List.Sums.{sum_by-set, sum_by-append}
 use Rattle.std.proofs.Math.ListN.{get_or-append}
 use Rattle.std.proofs.Math.Seq.{get_or-append_seam}
 use Rattle.mp_pool.specs.declared.Term.{Term}
-use Rattle.mp_cells.specs.Terms.{AreTerms}
+use Rattle.mp_forms.specs.Terms.{AreTerms}
 use Rattle.std.specs.Option.{is_none}
 use Rattle.mp_cells.specs.Pool.{Pool, list_in, length_in, used, spare_lists, IsGrown}
 use Rattle.mp_cells.specs.Storage.Chains.{chain_of, no_term}

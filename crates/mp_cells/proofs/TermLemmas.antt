@@ -7,7 +7,7 @@ use Rattle.std.proofs.lemmas.Bool.{lt-ltb, le-ltb, eq-eqb, ne_eqb, cases_order, 
 use Rattle.std.proofs.lemmas.List.{append_assoc, append-nil, flat_map_more, take_more}
 use Rattle.std.proofs.lemmas.List.Elements.{All-nil, All-cons, All-head, All-tail, All-append, All-filter}
 use Rattle.mp_pool.specs.declared.Term.{Term}
-use Rattle.mp_cells.specs.Terms.{term_from, joint_term, lone_term, changed_terms, with_term, sum_terms, StayInOrder, SerialsDecrease, IsCoefficient, AreTerms, AreOrdered}
+use Rattle.mp_forms.specs.Terms.{term_from, joint_term, lone_term, changed_terms, with_term, sum_terms, SerialsDecrease, IsCoefficient, AreTerms, AreOrdered}
 
 -- which of two serials comes first
 less_is : (m n : ℕ) → m < n → nat_cmp m n ≡ Less
@@ -169,9 +169,6 @@ module _ (change : ℤ → ℤ) where
     serials = SerialsDecrease-sum_terms change (2 ^ 32) ps qs left.serials right.serials;
     nonzero = nonzero-sum_terms ps qs (λ k d lt. (left.coefficients k d lt).0);
   }
-
-pub stay_in_order : StayInOrder
-stay_in_order = record { multiples = AreOrdered-changed_terms; sums = AreOrdered-sum_terms; first = λ change q ts below. sum_terms-first change q ts (q ∷ []) refl below }
 
 AreTerms-tail : (t : Term) (ts : List Term) → AreTerms (t ∷ ts) → AreTerms ts
 AreTerms-tail t ts are = record {

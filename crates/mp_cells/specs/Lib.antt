@@ -1,4 +1,3 @@
-pub mod Ratios
 pub mod Terms
 pub mod Pool
 pub mod Storage

@@ -2,7 +2,7 @@
 
 ghost use Rattle.std.specs.Prelude.{◌≡◌, ◌<◌, ◌≤◌, ◌+◌, ◌^◌, ◌∷◌, ◌&&◌, [], List, length, drop, ℤ, unsigned_abs, IsNone, IfSome};
 ghost use Rattle.mp_pool.specs.declared.Term.{Term};
-ghost use Rattle.mp_cells.specs.Ratios.{times_fraction};
+ghost use Rattle.mp_forms.specs.Ratios.{times_fraction};
 ghost use Rattle.mp_cells.specs.Storage.Merge.{merge, are_small, small, IsSmall, AreSmall, FrontAtMost, FrontBelow};
 
 use crate::TermsOf;

@@ -1,7 +1,8 @@
 //! What is done to one list: its cells come from the spare ones, chain 0, and go back to them.
 
 ghost use Rattle.std.specs.Prelude.{◌≡◌, ◌≢◌, ◌<◌, ◌≤◌, ◌+◌, ◌^◌, ◌++◌, [], ◌∷◌, length, option_map};
-ghost use Rattle.mp_cells.specs.Terms.{without, term_of, SerialsDecrease, AreTerms};
+ghost use Rattle.mp_forms.specs.Terms.{SerialsDecrease, AreTerms};
+ghost use Rattle.mp_cells.specs.Terms.{without, term_of};
 ghost use Rattle.mp_cells.specs.Storage.Chains.{chain_of};
 ghost use Rattle.mp_cells.specs.Storage.Frames.{OnlyTwo};
 ghost use Rattle.mp_cells.specs.Storage.Merge.{FrontAtMost};

@@ -1,13 +1,13 @@
 //! A sorted merge in location, by cells that go from chain to chain.
 ghost use Rattle.std.specs.Prelude.{◌≡◌, ◌≢◌, ◌<◌, ◌≤◌, ◌+◌, ◌^◌, ◌++◌, ◌∷◌, List, take, drop, length, unsigned_abs, ℤ, ◌+ℤ◌, IsNone, IfSome};
 ghost use Rattle.mp_pool.specs.declared.Term.{Term};
-ghost use Rattle.mp_cells.specs.Ratios.{times_fraction};
+ghost use Rattle.mp_forms.specs.Ratios.{times_fraction};
 ghost use Rattle.mp_cells.specs.Storage.Chains.{chain_of};
 ghost use Rattle.mp_cells.specs.Storage.Frames.{OnlyTwo, OnlyThree, AreThree};
 ghost use Rattle.mp_cells.specs.Storage.Merge.{merge, kept, IsSmall, AreSmall, FrontAtMost, FrontBelow};
 
-use crate::Ratio;
 use crate::cells::Cells;
+use crate::ratio::Ratio;
 use mp_pool::Term;
 
 /// Moves the cells of greater serial from `left` to `done`.

@@ -1,8 +1,9 @@
 //! Many lists of terms that share their cells.
 
 ghost use Rattle.std.specs.Prelude.{◌≡◌, ◌≢◌, ◌↔◌, ◌<◌, ◌≤◌, ◌+◌, ◌^◌, ◌++◌, [], ◌∷◌, None, unsigned_abs, option_map, length, IsSome, IsErr, OnOk, OnErr};
-ghost use Rattle.mp_cells.specs.Ratios.{times_fraction};
-ghost use Rattle.mp_cells.specs.Terms.{without, term_of, sum_terms, AreTerms, HasTooLarge};
+ghost use Rattle.mp_forms.specs.Ratios.{times_fraction};
+ghost use Rattle.mp_forms.specs.Terms.{sum_terms, AreTerms, HasTooLarge};
+ghost use Rattle.mp_cells.specs.Terms.{without, term_of};
 ghost use Rattle.mp_cells.specs.Pool.{list_in, terms_in, with_list, without_list, used, spare, spare_lists, IsGrown};
 
 use crate::TermsOf;

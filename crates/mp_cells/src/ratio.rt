@@ -2,7 +2,7 @@
 
 ghost use Rattle.std.specs.Prelude.{◌≡◌, ◌≢◌, ◌<◌, ◌≤◌, ◌*◌, ◌^◌, pos, ◌*ℤ◌, unsigned_abs};
 ghost use Rattle.mp_scaled.specs.Round.{round, rounded_quotient, signed_of};
-ghost use Rattle.mp_cells.specs.Ratios.{ratio_times};
+ghost use Rattle.mp_forms.specs.Ratios.{ratio_times};
 
 /// A numerator over a denominator, of magnitude 2^16 at most.
 #[derive(Clone, Copy)]
@@ -14,10 +14,7 @@ pub struct Ratio {
 }
 
 /// 1 as a coefficient.
-pub const FRACTION_ONE: i64 = 1 << 28;
-
-/// 1 as a number in units of 2^-16.
-const SCALED_ONE: i64 = 1 << 16;
+const FRACTION_ONE: i64 = 1 << 28;
 
 impl Ratio {
     /// A number in units of 2^-28.
@@ -30,31 +27,6 @@ impl Ratio {
         Ratio {
             numerator: f,
             denominator: FRACTION_ONE,
-        }
-    }
-
-    /// A number in units of 2^-16.
-    #[inline(always)]
-    pub fn scaled(s: i32) -> Ratio
-        ensures numerator { result.numerator ≡ s }
-        ensures denominator { result.denominator ≡ pos 65536 }
-    {
-        Ratio {
-            numerator: i64::from(s),
-            denominator: SCALED_ONE,
-        }
-    }
-
-    /// 1 over a number in units of 2^-16.
-    #[inline(always)]
-    pub fn over_scaled(s: i32) -> Ratio
-        requires { s ≢ pos 0 }
-        ensures numerator { result.numerator ≡ pos 65536 }
-        ensures denominator { result.denominator ≡ s }
-    {
-        Ratio {
-            numerator: SCALED_ONE,
-            denominator: i64::from(s),
         }
     }
 

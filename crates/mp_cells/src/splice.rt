@@ -1,8 +1,8 @@
 //! A merge of two lists of the pool: chain 0 is spare, chains 1 and 2 are empty between calls.
 ghost use Rattle.std.specs.Prelude.{◌≡◌, ◌≢◌, ◌<◌, ◌≤◌, ◌+◌, ◌^◌, ◌++◌, ◌∷◌, List, take, drop, length, unsigned_abs, [], IsTrue, IsFalse};
 ghost use Rattle.mp_pool.specs.declared.Term.{Term};
-ghost use Rattle.mp_cells.specs.Ratios.{times_fraction};
-ghost use Rattle.mp_cells.specs.Terms.{sum_terms, AreTerms};
+ghost use Rattle.mp_forms.specs.Ratios.{times_fraction};
+ghost use Rattle.mp_forms.specs.Terms.{sum_terms, AreTerms};
 ghost use Rattle.mp_cells.specs.Storage.Chains.{chain_of};
 ghost use Rattle.mp_cells.specs.Storage.Frames.{OnlyTwo, OnlyThree, AreThree, Merging, Elsewhere};
 ghost use Rattle.mp_cells.specs.Storage.Merge.{merge, are_small, IsSmall, AreSmall};

@@ -2,7 +2,7 @@
 -- slot's list is the chain of three more.
 use Rattle.std.specs.Prelude.{◌≡◌, ℕ, suc, ◌+◌, ◌<◌, ◌≤◌, ◌^◌, Bool, true, false, not, cond, List, [], ◌∷◌, ◌++◌, max, sum_by, Option, Some, None, count_by, length, slice_index_or}
 use Rattle.mp_pool.specs.declared.Term.{Term}
-use Rattle.mp_cells.specs.Terms.{AreTerms}
+use Rattle.mp_forms.specs.Terms.{AreTerms}
 use Rattle.mp_cells.specs.Storage.Chains.{chain_of}
 
 -- the slots, from chain k on; a slot is taken or free

@@ -1,7 +1,7 @@
 use Rattle.std.proofs.Common.{◌<◌, ◌^◌, drop, refl, rules, w64, FitsSigned}
 use Rattle.std.proofs.lemmas.Int.{to_z-of_z}
 use Rattle.std.specs.Prelude.{unsigned_abs}
-use Rattle.mp_cells.specs.Ratios.{times_fraction}
+use Rattle.mp_forms.specs.Ratios.{times_fraction}
 use Rattle.mp_cells.proofs.Merging.{small-drop}
 use Rattle.mp_cells.proofs.Fitting.{fit-step, fit-end}
 use Rattle.mp_cells.proofs.fits.fits.Goals as goal

@@ -1,5 +1,5 @@
 use Rattle.std.proofs.Common.{◌≡◌, length}
-use Rattle.mp_cells.specs.Ratios.{times_fraction}
+use Rattle.mp_forms.specs.Ratios.{times_fraction}
 use Rattle.mp_cells.specs.Storage.Merge.{merge, AreSmall, are_small}
 use Rattle.mp_cells.proofs.fits.fits.Given as goal
 

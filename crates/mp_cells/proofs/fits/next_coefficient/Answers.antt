@@ -1,7 +1,7 @@
 use Rattle.std.proofs.Common.{◌≡◌, refl, rules, to_z, of_z, w64, FitsSigned, ap, ◌∙◌}
 use Rattle.std.proofs.lemmas.Int.{to_z-of_z}
 use Rattle.std.specs.Prelude.{◌+ℤ◌}
-use Rattle.mp_cells.specs.Ratios.{times_fraction}
+use Rattle.mp_forms.specs.Ratios.{times_fraction}
 use Rattle.mp_cells.proofs.Merging.{small-drop}
 use Rattle.mp_cells.proofs.Fitting.{fit-same, fit-new}
 use Rattle.mp_cells.proofs.fits.next_coefficient.Goals as goal

@@ -1,5 +1,6 @@
 use Rattle.std.proofs.Common.{◌≡◌, ◌+◌, ◌++◌, ◌^◌, length}
-use Rattle.mp_cells.specs.Terms.{without, term_of, SerialsDecrease}
+use Rattle.mp_forms.specs.Terms.{SerialsDecrease}
+use Rattle.mp_cells.specs.Terms.{without, term_of}
 use Rattle.mp_cells.specs.Storage.Chains.{chain_of}
 use Rattle.mp_cells.specs.Storage.Frames.{OnlyTwo}
 use Rattle.mp_cells.proofs.lists.skip.Given as goal

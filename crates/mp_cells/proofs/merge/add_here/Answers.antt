@@ -1,7 +1,7 @@
 use Rattle.std.proofs.Common.{◌≡◌, refl, rules, w64, FitsSigned, ap, ◌∙◌}
 use Rattle.std.proofs.lemmas.Int.{to_z-of_z}
 use Rattle.std.specs.Prelude.{◌+ℤ◌}
-use Rattle.mp_cells.specs.Ratios.{times_fraction}
+use Rattle.mp_forms.specs.Ratios.{times_fraction}
 use Rattle.mp_cells.proofs.Merging.{add-same, add-new, small-drop}
 use Rattle.mp_cells.proofs.merge.add_here.Goals as goal
 

@@ -3,7 +3,7 @@ use Rattle.std.proofs.lemmas.Int.{to_z-of_z}
 use Rattle.std.proofs.lemmas.List.{nil_from_length}
 use Rattle.mp_pool.specs.declared.Term.{Term}
 use Rattle.mp_cells.specs.Storage.Chains.{chain_of}
-use Rattle.mp_cells.specs.Ratios.{times_fraction}
+use Rattle.mp_forms.specs.Ratios.{times_fraction}
 use Rattle.mp_cells.proofs.Merging.{merge-nil}
 use Rattle.mp_cells.proofs.splice.merge_into.Goals as goal
 

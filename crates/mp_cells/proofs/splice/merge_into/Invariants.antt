@@ -1,7 +1,7 @@
 use Rattle.std.proofs.Common.{◌≡◌, ◌+◌, ◌++◌, length}
 use Rattle.mp_cells.specs.Storage.Chains.{chain_of}
 use Rattle.mp_cells.specs.Storage.Frames.{Merging, Elsewhere}
-use Rattle.mp_cells.specs.Ratios.{times_fraction}
+use Rattle.mp_forms.specs.Ratios.{times_fraction}
 use Rattle.mp_cells.specs.Storage.Merge.{merge}
 use Rattle.mp_cells.proofs.splice.merge_into.Given as goal
 

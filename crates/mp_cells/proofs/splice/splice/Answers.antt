@@ -1,6 +1,6 @@
 use Rattle.std.proofs.Common.{◌^◌, FitsSigned, w64, sym, ap, ◌∙◌}
 use Rattle.std.proofs.lemmas.Int.{to_z-of_z}
-use Rattle.mp_cells.specs.Ratios.{times_fraction}
+use Rattle.mp_forms.specs.Ratios.{times_fraction}
 use Rattle.mp_cells.specs.Storage.Chains.{chain_of}
 use Rattle.mp_cells.specs.Storage.Merge.{are_small}
 use Rattle.mp_cells.proofs.MergeLemmas.{merge_is}

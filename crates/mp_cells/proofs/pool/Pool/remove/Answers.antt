@@ -1,6 +1,6 @@
 use Rattle.std.proofs.Common.{List, sym, ap, ◌∙◌, subst, arith}
 use Rattle.mp_pool.specs.declared.Term.{Term}
-use Rattle.mp_cells.specs.Terms.{AreTerms}
+use Rattle.mp_forms.specs.Terms.{AreTerms}
 use Rattle.mp_cells.proofs.SlotLemmas.{held, chain_in}
 use Rattle.mp_cells.proofs.PoolLemmas.{IsListed, IsPool-list, view-list}
 use Rattle.mp_cells.specs.Terms.{without}

@@ -1,8 +1,8 @@
 use Rattle.std.proofs.Common.{◌≡◌, ◌+◌, List, FitsSigned, w64, length, refl, sym, ap, ◌∙◌, arith}
 use Rattle.std.proofs.lemmas.Int.{to_z-of_z}
 use Rattle.mp_pool.specs.declared.Term.{Term}
-use Rattle.mp_cells.specs.Ratios.{times_fraction}
-use Rattle.mp_cells.specs.Terms.{sum_terms, AreTerms}
+use Rattle.mp_forms.specs.Ratios.{times_fraction}
+use Rattle.mp_forms.specs.Terms.{sum_terms, AreTerms}
 use Rattle.mp_cells.specs.Storage.Chains.{chain_of}
 use Rattle.mp_cells.specs.Storage.Merge.{are_small, AreSmall}
 use Rattle.mp_cells.proofs.SlotLemmas.{held, spare_seen, slot_in, chain_in}
