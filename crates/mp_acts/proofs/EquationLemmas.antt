@@ -19,9 +19,14 @@ use Rattle.mp_solver.specs.declared.equated.Equated.TheVariants.{Accepted, Coeff
 use Rattle.mp_values.specs.declared.meaning.Meaning.{Meaning}
 use Rattle.mp_values.specs.declared.value.Value.{Value}
 use Rattle.mp_vartree.specs.Variables.{Variables}
-use Rattle.mp_acts.specs.Reach.{reach_of_form, reach_of_known, reach_of_slot, AreWithin}
+use Rattle.mp_vartree.specs.Laws.{held}
+use Rattle.mp_symbols.specs.Tables.{Table}
+use Rattle.mp_acts.specs.Counts.{IsWithin}
+use Rattle.mp_acts.specs.State.{counts_of}
+use Rattle.mp_acts.specs.Reach.{reach_of_form, reach_of_known, reach_of_variable, reach_of_slot, AreWithin}
 use Rattle.mp_acts.specs.Kept.{IsKept}
 use Rattle.mp_acts.proofs.EventLemmas.{events_equation}
+use Rattle.mp_acts.proofs.WithinLemmas.{within_more, all_more, meanings_more, saved_more}
 use Rattle.mp_acts.proofs.ReachLemmas.{is_over, reach-filter, reach-changed, reach-sum}
 
 module _ (n : ℕ) where
@@ -81,41 +86,45 @@ eliminate_like states residual forms h =
     })
 
 -- the invariant of a state holds after an equation
-pub record Keeps (before after : States) (variables : Variables) (slots : List (Option Value)) : Type 0 where
+pub record Keeps (before after : States) (variables : Variables) (slots : List (Option Value)) (symbols : Table Meaning) : Type 0 where
   pub length_is : length after ≡ length before
-  pub within : AreWithin after variables slots
+  pub within : AreWithin after variables slots symbols
 
-pub equation_keeps : (states after : States) (variables : Variables) (slots : List (Option Value)) (residual : LinearForm) (answer : Equated)
-    → AreWithin states variables slots → reach_of_form residual ≤ length states → (answer, after) ≡ eliminate states residual → Keeps states after variables slots
-equation_keeps states after variables slots residual answer is h e =
+pub equation_keeps : (states after : States) (variables : Variables) (slots : List (Option Value)) (symbols : Table Meaning) (residual : LinearForm) (answer : Equated)
+    → AreWithin states variables slots symbols → reach_of_form residual ≤ length states → (answer, after) ≡ eliminate states residual → Keeps states after variables slots symbols
+equation_keeps states after variables slots symbols residual answer is h e =
     let same : after ≡ (eliminate states residual).1 = ap (λ pair. pair.1) e in
     let like = eliminate_like states residual is.forms h in
     let count : length after ≡ length states = ap length same ∙ like.length_is in
     let forms : All (λ known. reach_of_known known ≤ length states) after = subst (λ (l : States). All (λ known. reach_of_known known ≤ length states) l) (sym same) like.forms in
+    let old = counts_of states slots symbols in
+    let new = counts_of after slots symbols in
+    let more : IsWithin old new = record { unknowns = omega (arith, count); slots = omega arith; symbols = omega arith; internals = omega arith } in
     record {
       length_is = count;
       within = record {
         few = omega (arith, is.few);
         forms = All-weaker (λ known. reach_of_known known ≤ length states) (λ known. reach_of_known known ≤ length after) (λ known h. omega arith) after forms;
-        held = λ name. omega (arith, is.held name);
-        filled = All-weaker (λ slot. reach_of_slot slot ≤ length states) (λ slot. reach_of_slot slot ≤ length after) (λ slot h. omega arith) slots is.filled;
+        held = λ name. within_more (reach_of_variable (held variables name)) old new (is.held name) more;
+        filled = all_more reach_of_slot slots old new more is.filled;
+        meanings = meanings_more symbols.names old new more is.meanings;
+        saved = saved_more symbols.saved old new more is.saved;
       };
     }
 
 -- what is kept of a state is kept by an equation that was accepted, which is the newest event
-module _ {past : Meaning} {count : ℕ} {variables : Variables} {slots : List (Option Value)} {events : List Event} (before now : Unknowns) (difference residual : LinearForm)
-    (is : IsKept past count before variables slots events) (terms : AreTerms difference.terms) (reaches : reach_of_form difference ≤ length before.states)
+module _ {count : ℕ} {variables : Variables} {slots : List (Option Value)} {symbols : Table Meaning} {events : List Event} (before now : Unknowns) (difference residual : LinearForm)
+    (is : IsKept count before variables slots symbols events) (terms : AreTerms difference.terms) (reaches : reach_of_form difference ≤ length before.states)
     (reduced : Ok residual ≡ reduce_of before.states difference) (within : reach_of_form residual ≤ length before.states)
     (exact : (Accepted, now.states) ≡ eliminate before.states residual) (names : now.names ≡ before.names) where
-  keeps : Keeps before.states now.states variables slots
-  keeps = equation_keeps before.states now.states variables slots residual Accepted is.within within exact
+  keeps : Keeps before.states now.states variables slots symbols
+  keeps = equation_keeps before.states now.states variables slots symbols residual Accepted is.within within exact
 
   pub as_many : length now.states ≡ length before.states
   as_many = keeps.length_is
 
-  pub with_equation : IsKept past count now variables slots (events ++ Equation difference ∷ [])
+  pub with_equation : IsKept count now variables slots symbols (events ++ Equation difference ∷ [])
   with_equation = record {
-    past_is = is.past_is;
     counted = is.counted ∙ sym as_many;
     within = keeps.within;
     history =

@@ -6,3 +6,4 @@ pub mod GroupLemmas
 pub mod TableLemmas
 pub mod TextLemmas
 pub mod WithinLemmas
+pub mod MeaningLemmas

@@ -1,32 +1,13 @@
--- The table of names: numbers past it, and names added one by one.
+-- The table of names: names added one by one.
 use Rattle.std.proofs.Common.{◌≡◌, ℕ, zero, suc, ◌+◌, ◌≤◌, ◌<◌, ℤ, List, [], ◌∷◌, ◌++◌, map, length, get_or, drop, refl, sym, ap, ◌∙◌, arith, add-one, drop-cons, length-append}
 use Rattle.std.specs.List.{fold}
-use Rattle.std.specs.Option.{option_map}
-use Rattle.std.proofs.lemmas.Option.{slice_get_past}
 use Rattle.std.proofs.lemmas.List.{drop_all, append-nil, append_assoc, map-append}
 use Rattle.std.proofs.lemmas.List.Sums.{fold-append}
-use Rattle.mp_symbols.specs.Names.{Names, with_name, with_meaning}
+use Rattle.mp_symbols.specs.Names.{Names, with_name}
 use Rattle.mp_symbols.specs.Tables.{Table}
-use Rattle.mp_symbols.specs.Groups.{with_symbol, save, save_by, save_internal, save_internal_by}
 use Rattle.mp_values.specs.declared.meaning.Meaning.{Meaning}
 use Rattle.mp_values.specs.declared.meaning.Meaning.TheVariants.{Internal}
 use Rattle.mp_acts.specs.Start.{with_entries, internal_entries, with_more_names, with_more_internals, unbuilt_entry}
-
-with_meaning-past : {M : Type 0} (names : Names M) (symbol : ℕ) (new : M) → length names ≤ symbol → with_meaning names symbol new ≡ names
-with_meaning-past [] symbol new h = refl
-with_meaning-past (entry ∷ more) zero new h = absurd (omega arith)
-with_meaning-past (entry ∷ more) (suc symbol) new h = ap (λ rest. entry ∷ rest) (with_meaning-past more symbol new (omega arith))
-
--- a symbol past the table gets no meaning
-pub with_symbol-past : {M : Type 0} (table : Table M) (symbol : ℕ) (new : M) → length table.names ≤ symbol → with_symbol table symbol new ≡ table
-with_symbol-past table symbol new h = ap (λ names. record table { names = names }) (with_meaning-past table.names symbol new h)
-
--- and past the table, or the internals, nothing is kept for the end of the group
-pub save-past : {M : Type 0} (table : Table M) (symbol : ℕ) (new : M) → length table.names ≤ symbol → save table symbol new ≡ table
-save-past table symbol new h = ap (λ entry. save_by (option_map (λ e. e.1) entry) table symbol new) (slice_get_past table.names symbol h)
-
-pub save_internal-past : {M : Type 0} (table : Table M) (k : ℕ) → length table.internals ≤ k → save_internal table k ≡ table
-save_internal-past table k h = ap (λ value. save_internal_by value table k) (slice_get_past table.internals k h)
 
 -- the names of what is left of a list, when the next of them was added
 length-push : {X : Type 0} (xs : List X) (x : X) → length (xs ++ x ∷ []) ≡ length xs + 1
@@ -107,5 +88,3 @@ first_table t0 t1 t2 t3 t4 a b i d h0 h1 h2 h3 h4 =
     (sym (fold-append add [] a (b ++ (internal_entries 0 i ++ d))
     ∙ fold-append add (fold add [] a) b (internal_entries 0 i ++ d)
     ∙ fold-append add (fold add (fold add [] a) b) (internal_entries 0 i) d))
-
-pub ruleset table_steps = (with_symbol-past, save-past, save_internal-past)

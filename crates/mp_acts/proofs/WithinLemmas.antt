@@ -1,11 +1,12 @@
--- Variables, slots and unknowns that change, and still speak of unknowns that there are.
-use Rattle.std.proofs.Common.{◌≡◌, ℕ, ◌+◌, ◌≤◌, ◌<◌, Bool, true, false, cond, List, [], ◌∷◌, ◌++◌, Option, Some, None, Result, Ok, Err, length, map, refl, sym, ap, subst, ◌∙◌, arith}
+-- Variables, slots, unknowns and symbols that change, and all still speaks of what there is.
+use Rattle.std.proofs.Common.{◌≡◌, ℕ, ◌+◌, ◌≤◌, ◌<◌, Bool, true, false, cond, List, [], ◌∷◌, ◌++◌, Option, Some, None, Result, Ok, Err, length, get_or, zero, suc, map, refl, sym, ap, subst, ◌∙◌, arith}
 use Rattle.std.specs.List.{All}
 use Rattle.std.specs.Ordering.{eq_by_cmp}
-use Rattle.std.specs.Prelude.{nat_lt}
+use Rattle.std.specs.Prelude.{nat_lt, slice_set}
 use Rattle.std.proofs.Common.{length-append}
 use Rattle.std.proofs.lemmas.Bool.Decides.{nat_tests}
-use Rattle.std.proofs.lemmas.List.Elements.{All-push, All-weaker}
+use Rattle.std.proofs.lemmas.List.Elements.{All-push, All-set, All-weaker}
+use Rattle.mp_forms.specs.Forms.{LinearForm}
 use Rattle.mp_solver.specs.States.{States, Unknowns, with_fresh, fresh_of}
 use Rattle.mp_solver.specs.declared.fresh.Fresh.{Fresh}
 use Rattle.mp_solver.specs.declared.fresh.Fresh.TheVariants.{Made, Limit}
@@ -26,9 +27,13 @@ use Rattle.mp_vartree.specs.declared.names.Shape.{Shape}
 use Rattle.mp_solver.specs.Replay as event
 use Rattle.mp_solver.specs.Replay.{Event}
 use Rattle.mp_values.specs.declared.meaning.Meaning.{Meaning}
-use Rattle.mp_acts.specs.Reach.{reach, reach_of_known, reach_of_fresh, reach_of_variable, reach_of_slot, AreWithin}
+use Rattle.mp_acts.specs.Counts.{Counts, nothing, most, greatest, IsWithin}
+use Rattle.mp_acts.specs.Reach.{reach, reach_of_form, reach_of_known, reach_of_fresh, reach_of_variable, reach_of_slot, reach_of_meaning, reach_of_saved, AreWithin}
+use Rattle.std.proofs.lemmas.List.{length-set}
+use Rattle.mp_symbols.specs.Names.{Names}
 use Rattle.mp_symbols.specs.Tables.{Table}
-use Rattle.mp_acts.specs.State.{State}
+use Rattle.mp_symbols.specs.declared.saved.Saved.{Saved}
+use Rattle.mp_acts.specs.State.{State, counts_of}
 use Rattle.mp_acts.specs.Events.{event_of}
 use Rattle.mp_acts.specs.Kept.{IsKept}
 use Rattle.mp_acts.specs.Variables.{without_names}
@@ -37,29 +42,60 @@ use Rattle.mp_solver.specs.declared.limits.TheConstants.{UNKNOWN_LIMIT}
 use Rattle.mp_acts.proofs.EventLemmas.{map_push, events_fresh, states_without_names, events_without_names}
 use Rattle.mp_acts.proofs.ReachLemmas.{reach_of_counted}
 
+pub nothing_within : (n : Counts) → IsWithin nothing n
+nothing_within n = record { unknowns = omega arith; slots = omega arith; symbols = omega arith; internals = omega arith }
+
+pub within_more : (a b c : Counts) → IsWithin a b → IsWithin b c → IsWithin a c
+within_more a b c h k = record {
+  unknowns = omega (arith, h.unknowns, k.unknowns);
+  slots = omega (arith, h.slots, k.slots);
+  symbols = omega (arith, h.symbols, k.symbols);
+  internals = omega (arith, h.internals, k.internals);
+}
+
+pub form_within : (n : Counts) (p : LinearForm) → reach_of_form p ≤ n.unknowns → IsWithin (record nothing { unknowns = reach_of_form p }) n
+form_within n p h = record { unknowns = h; slots = omega arith; symbols = omega arith; internals = omega arith }
+
+-- unknowns that are as many
+pub as_many_within : (before after : States) (slots : List (Option Value)) (symbols : Table Meaning) → length after ≡ length before
+    → IsWithin (counts_of before slots symbols) (counts_of after slots symbols)
+as_many_within before after slots symbols same = record { unknowns = omega (arith, same); slots = omega arith; symbols = omega arith; internals = omega arith }
+
+-- one of a list asks for no more than the whole of it
+pub greatest_each : {A : Type 0} (f : A → Counts) (xs : List A) (i : ℕ) (d : A) → i < length xs → IsWithin (f (get_or xs i d)) (greatest f xs)
+unfolding greatest
+greatest_each f [] i d h = absurd (omega arith)
+greatest_each f (x ∷ xs) zero d h = record { unknowns = omega arith; slots = omega arith; symbols = omega arith; internals = omega arith }
+greatest_each f (x ∷ xs) (suc i) d h =
+    let rest = greatest_each f xs i d (omega arith) in
+    record { unknowns = omega (arith, rest.unknowns); slots = omega (arith, rest.slots); symbols = omega (arith, rest.symbols); internals = omega (arith, rest.internals) }
+
+-- what was within is so where there is more
+pub all_more : {A : Type 0} (f : A → Counts) (xs : List A) (a b : Counts) → IsWithin a b → All (λ x. IsWithin (f x) a) xs → All (λ x. IsWithin (f x) b) xs
+all_more f xs a b more is = All-weaker (λ x. IsWithin (f x) a) (λ x. IsWithin (f x) b) (λ x h. within_more (f x) a b h more) xs is
+
 -- each variable reaches so far at most
-abbrev pub HoldWithin : ℕ → Variables → Type 0
-HoldWithin n v = (name : List Part) → reach_of_variable (held v name) ≤ n
+abbrev pub HoldWithin : Counts → Variables → Type 0
+HoldWithin n v = (name : List Part) → IsWithin (reach_of_variable (held v name)) n
 
 -- what is kept of a state, with other variables
-pub with_variables : {past : Meaning} {count : ℕ} {unknowns : Unknowns} {old new : Variables} {slots : List (Option Value)} {events : List Event}
-    → IsKept past count unknowns old slots events → HoldWithin (length unknowns.states) new → IsKept past count unknowns new slots events
+pub with_variables : {count : ℕ} {unknowns : Unknowns} {old new : Variables} {slots : List (Option Value)} {symbols : Table Meaning} {events : List Event}
+    → IsKept count unknowns old slots symbols events → HoldWithin (counts_of unknowns.states slots symbols) new → IsKept count unknowns new slots symbols events
 with_variables is h = record {
-  past_is = is.past_is;
   counted = is.counted;
-  within = record { few = is.within.few; forms = is.within.forms; held = h; filled = is.within.filled };
+  within = record { few = is.within.few; forms = is.within.forms; held = h; filled = is.within.filled; meanings = is.within.meanings; saved = is.within.saved };
   history = is.history;
 }
 
 -- a new root changes no variable
-pub rooted_within : (n : ℕ) (old new : Variables) → new ≡ variables.with_new_root old → HoldWithin n old → HoldWithin n new
+pub rooted_within : (n : Counts) (old new : Variables) → new ≡ variables.with_new_root old → HoldWithin n old → HoldWithin n new
 rooted_within n old new e h = subst (λ (w : Variables). HoldWithin n w) (sym e) h
 
-module _ (n : ℕ) (v : Variables) (within : HoldWithin n v) where
-  held_with : PutsOne → (root : ℕ) (name : List Part) (x : Variable) → reach x.value ≤ n → HoldWithin n (with_variable v root name x)
+module _ (n : Counts) (v : Variables) (within : HoldWithin n v) where
+  held_with : PutsOne → (root : ℕ) (name : List Part) (x : Variable) → IsWithin (reach x.value) n → HoldWithin n (with_variable v root name x)
   held_with puts root name x h other =
       rw (puts v root name x other)
-      (elim (eq_by_cmp name_cmp other (full_name root name)) as (λ b. reach_of_variable (cond b (Some x) (held v other)) ≤ n) [
+      (elim (eq_by_cmp name_cmp other (full_name root name)) as (λ b. IsWithin (reach_of_variable (cond b (Some x) (held v other))) n) [
         | true ↦ h
         | false ↦ within other
       ])
@@ -67,8 +103,8 @@ module _ (n : ℕ) (v : Variables) (within : HoldWithin n v) where
   held_without : TakesThose → (test : List Part → Bool) → HoldWithin n (without v test)
   held_without takes test other =
       rw (takes v test other)
-      (elim (test other) as (λ b. reach_of_variable (cond b None (held v other)) ≤ n) [
-        | true ↦ omega arith
+      (elim (test other) as (λ b. IsWithin (reach_of_variable (cond b None (held v other))) n) [
+        | true ↦ nothing_within n
         | false ↦ within other
       ])
 
@@ -87,7 +123,7 @@ module _ (n : ℕ) (v : Variables) (within : HoldWithin n v) where
       subst (λ (w : Variables). HoldWithin n w) (sym (ap (λ pair. pair.1) e)) (by (is_below_macro (macro_at v root) name))
 
   pub store_within : PutsOne → (made : Bool) (root : ℕ) (name : List Part) (value : Value) (answer : Result (Unit {0}) WrongType) (new : Variables)
-      → (answer, new) ≡ variables.store_as made v root name value → reach value ≤ n → HoldWithin n new
+      → (answer, new) ≡ variables.store_as made v root name value → IsWithin (reach value) n → HoldWithin n new
   store_within puts made root name value answer new e h =
       let after = with_variable v root name (record { value = value; made = made }) in
       let by : (b : Bool) → HoldWithin n (cond {A = Result (Unit {0}) WrongType × Variables} b (Ok tt, after) (Err (record {}), v)).1 =
@@ -98,14 +134,13 @@ module _ (n : ℕ) (v : Variables) (within : HoldWithin n v) where
       subst (λ (w : Variables). HoldWithin n w) (sym (ap (λ pair. pair.1) e)) (by (is_kind (wanted_kind v root name) (kind_of value)))
 
 -- and with fewer names of unknowns
-pub with_fewer_names : {past : Meaning} {count : ℕ} {variables : Variables} {slots : List (Option Value)} {events : List Event} (serials : List ℕ) (old new : Unknowns)
-    → new ≡ without_names old serials → IsKept past count old variables slots events → IsKept past count new variables slots events
-with_fewer_names {past = past} {count = count} {variables = variables} {slots = slots} {events = events} serials old new taken is =
+pub with_fewer_names : {count : ℕ} {variables : Variables} {slots : List (Option Value)} {symbols : Table Meaning} {events : List Event} (serials : List ℕ) (old new : Unknowns)
+    → new ≡ without_names old serials → IsKept count old variables slots symbols events → IsKept count new variables slots symbols events
+with_fewer_names {count = count} {variables = variables} {slots = slots} {symbols = symbols} {events = events} serials old new taken is =
     let same = states_without_names serials old in
-    subst (λ (u : Unknowns). IsKept past count u variables slots events) (sym taken) (record {
-      past_is = is.past_is;
+    subst (λ (u : Unknowns). IsKept count u variables slots symbols events) (sym taken) (record {
       counted = is.counted ∙ sym (ap length same);
-      within = subst (λ (states : States). AreWithin states variables slots) (sym same) is.within;
+      within = subst (λ (states : States). AreWithin states variables slots symbols) (sym same) is.within;
       history = events_without_names serials old is.history;
     })
 
@@ -139,31 +174,111 @@ module _ (before : Unknowns) (name : List ℕ) (serial : ℕ) (after : Unknowns)
   pub made_reached : reach_of_fresh (Made serial) ≤ length after.states
   made_reached = omega (arith, length_made, reach_of_counted (length before.states) serial made_is.1)
 
-  within_made : {v : Variables} {slots : List (Option Value)} → AreWithin before.states v slots → AreWithin after.states v slots
-  within_made {v = v} {slots = slots} is =
+  more_made : (slots : List (Option Value)) (symbols : Table Meaning) → IsWithin (counts_of before.states slots symbols) (counts_of after.states slots symbols)
+  more_made slots symbols = record { unknowns = omega (arith, length_made); slots = omega arith; symbols = omega arith; internals = omega arith }
+
+  within_made : {v : Variables} {slots : List (Option Value)} {symbols : Table Meaning} → AreWithin before.states v slots symbols → AreWithin after.states v slots symbols
+  within_made {v = v} {slots = slots} {symbols = symbols} is =
       let n = length before.states in
       let m = length after.states in
+      let old = counts_of before.states slots symbols in
+      let new = counts_of after.states slots symbols in
+      let more = more_made slots symbols in
       let forms : All (λ known. reach_of_known known ≤ m) (with_fresh before.states) =
       All-push (λ known. reach_of_known known ≤ m) before.states None
       (All-weaker (λ known. reach_of_known known ≤ n) (λ known. reach_of_known known ≤ m) (λ known h. omega (arith, length_made, h)) before.states is.forms) (omega arith) in
       record {
         few = omega (arith, length_made, made_is.0);
         forms = subst (λ (states : States). All (λ known. reach_of_known known ≤ m) states) (sym made_is.2) forms;
-        held = λ name. omega (arith, length_made, is.held name);
-        filled = All-weaker (λ slot. reach_of_slot slot ≤ n) (λ slot. reach_of_slot slot ≤ m) (λ slot h. omega (arith, length_made, h)) slots is.filled;
+        held = λ name. within_more (reach_of_variable (held v name)) old new (is.held name) more;
+        filled = all_more reach_of_slot slots old new more is.filled;
+        meanings = all_more (λ entry. reach_of_meaning entry.1) symbols.names old new more is.meanings;
+        saved = all_more reach_of_saved symbols.saved old new more is.saved;
       }
 
-  pub with_unknown : {past : Meaning} {count : ℕ} {v : Variables} {slots : List (Option Value)} {events : List Event}
-      → IsKept past count before v slots events → IsKept past (count + 1) after v slots (events ++ event.Fresh name ∷ [])
+  pub with_unknown : {count : ℕ} {v : Variables} {slots : List (Option Value)} {symbols : Table Meaning} {events : List Event}
+      → IsKept count before v slots symbols events → IsKept (count + 1) after v slots symbols (events ++ event.Fresh name ∷ [])
   with_unknown is = record {
-    past_is = is.past_is;
     counted = omega (arith, length_made, is.counted);
     within = within_made is.within;
     history = events_fresh before name serial after exact made_is.2 is.history;
   }
 
 -- what is kept of a state with a new event, as the code adds it
-pub with_event : {past : Meaning} {count : ℕ} {unknowns : Unknowns} {variables : Variables} {slots : List (Option Value)} (old new : List Kept) (e : Kept)
-    → new ≡ old ++ e ∷ [] → IsKept past count unknowns variables slots (map event_of old ++ event_of e ∷ []) → IsKept past count unknowns variables slots (map event_of new)
-with_event {past = past} {count = count} {unknowns = unknowns} {variables = variables} {slots = slots} old new e pushed is =
-    subst (λ (events : List Event). IsKept past count unknowns variables slots events) (sym (map_push old new e pushed)) is
+pub with_event : {count : ℕ} {unknowns : Unknowns} {variables : Variables} {slots : List (Option Value)} {symbols : Table Meaning} (old new : List Kept) (e : Kept)
+    → new ≡ old ++ e ∷ [] → IsKept count unknowns variables slots symbols (map event_of old ++ event_of e ∷ []) → IsKept count unknowns variables slots symbols (map event_of new)
+with_event {count = count} {unknowns = unknowns} {variables = variables} {slots = slots} {symbols = symbols} old new e pushed is =
+    subst (λ (events : List Event). IsKept count unknowns variables slots symbols events) (sym (map_push old new e pushed)) is
+
+-- one more slot, which is open
+more_slots : (unknowns : States) (slots : List (Option Value)) (symbols : Table Meaning) → IsWithin (counts_of unknowns slots symbols) (counts_of unknowns (slots ++ None ∷ []) symbols)
+more_slots unknowns slots symbols =
+    record { unknowns = omega arith; slots = omega (arith, length-append slots (None ∷ [])); symbols = omega arith; internals = omega arith }
+
+pub with_slot : {count : ℕ} {unknowns : Unknowns} {v : Variables} {slots : List (Option Value)} {symbols : Table Meaning} {events : List Event}
+    → IsKept count unknowns v slots symbols events → IsKept count unknowns v (slots ++ None ∷ []) symbols events
+with_slot {unknowns = unknowns} {v = v} {slots = slots} {symbols = symbols} is =
+    let old = counts_of unknowns.states slots symbols in
+    let new = counts_of unknowns.states (slots ++ None ∷ []) symbols in
+    let more = more_slots unknowns.states slots symbols in
+    record {
+      counted = is.counted;
+      within = record {
+        few = is.within.few;
+        forms = is.within.forms;
+        held = λ name. within_more (reach_of_variable (held v name)) old new (is.within.held name) more;
+        filled = All-push (λ slot. IsWithin (reach_of_slot slot) new) slots None (all_more reach_of_slot slots old new more is.within.filled) (nothing_within new);
+        meanings = all_more (λ entry. reach_of_meaning entry.1) symbols.names old new more is.within.meanings;
+        saved = all_more reach_of_saved symbols.saved old new more is.within.saved;
+      };
+      history = is.history;
+    }
+
+-- a slot that is filled
+pub with_filled : {count : ℕ} {unknowns : Unknowns} {v : Variables} {slots : List (Option Value)} {symbols : Table Meaning} {events : List Event} (slot : ℕ) (value : Value)
+    → IsWithin (reach value) (counts_of unknowns.states slots symbols) → IsKept count unknowns v slots symbols events → IsKept count unknowns v (slice_set slots slot (Some value)) symbols events
+with_filled {unknowns = unknowns} {v = v} {slots = slots} {symbols = symbols} slot value h is =
+    let old = counts_of unknowns.states slots symbols in
+    let new = counts_of unknowns.states (slice_set slots slot (Some value)) symbols in
+    let same = length-set slots slot (Some value) in
+    let more : IsWithin old new = record { unknowns = omega arith; slots = omega (arith, same); symbols = omega arith; internals = omega arith } in
+    record {
+      counted = is.counted;
+      within = record {
+        few = is.within.few;
+        forms = is.within.forms;
+        held = λ name. within_more (reach_of_variable (held v name)) old new (is.within.held name) more;
+        filled = All-set (λ entry. IsWithin (reach_of_slot entry) new) slots slot (Some value) (within_more (reach value) old new h more) (all_more reach_of_slot slots old new more is.within.filled);
+        meanings = all_more (λ entry. reach_of_meaning entry.1) symbols.names old new more is.within.meanings;
+        saved = all_more reach_of_saved symbols.saved old new more is.within.saved;
+      };
+      history = is.history;
+    }
+
+-- another table of names, with as much at least, whose meanings are within it
+pub with_table : {count : ℕ} {unknowns : Unknowns} {v : Variables} {slots : List (Option Value)} {old new : Table Meaning} {events : List Event}
+    → IsWithin (counts_of unknowns.states slots old) (counts_of unknowns.states slots new)
+    → All (λ entry. IsWithin (reach_of_meaning entry.1) (counts_of unknowns.states slots new)) new.names → All (λ entry. IsWithin (reach_of_saved entry) (counts_of unknowns.states slots new)) new.saved
+    → IsKept count unknowns v slots old events → IsKept count unknowns v slots new events
+with_table {unknowns = unknowns} {v = v} {slots = slots} {old = old} {new = new} more meanings saved is =
+    let before = counts_of unknowns.states slots old in
+    let after = counts_of unknowns.states slots new in
+    record {
+      counted = is.counted;
+      within = record {
+        few = is.within.few;
+        forms = is.within.forms;
+        held = λ name. within_more (reach_of_variable (held v name)) before after (is.within.held name) more;
+        filled = all_more reach_of_slot slots before after more is.within.filled;
+        meanings = meanings;
+        saved = saved;
+      };
+      history = is.history;
+    }
+
+-- the names and what is kept for ends of groups, with as much at least
+pub meanings_more : (names : Names Meaning) (a b : Counts) → IsWithin a b → All (λ entry. IsWithin (reach_of_meaning entry.1) a) names → All (λ entry. IsWithin (reach_of_meaning entry.1) b) names
+meanings_more names a b more is = all_more (λ entry. reach_of_meaning entry.1) names a b more is
+
+pub saved_more : (saved : List (Saved Meaning)) (a b : Counts) → IsWithin a b → All (λ entry. IsWithin (reach_of_saved entry) a) saved → All (λ entry. IsWithin (reach_of_saved entry) b) saved
+saved_more saved a b more is = all_more reach_of_saved saved a b more is

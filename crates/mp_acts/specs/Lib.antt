@@ -1,3 +1,4 @@
+pub mod Counts
 pub mod State
 pub mod Reach
 pub mod Operands

@@ -2,12 +2,13 @@
 use Rattle.std.specs.Prelude.{ℕ, ℤ, pos, List, [], Option, unwrap_or, length, slice_get}
 use Rattle.mp_symbols.specs.Names.{name_in, meaning_in}
 use Rattle.mp_symbols.specs.Tables.{Table}
-use Rattle.mp_solver.specs.States.{Unknowns}
+use Rattle.mp_solver.specs.States.{States, Unknowns}
 use Rattle.mp_solver.specs.Replay.{Event, unknowns_made, equations_accepted}
 use Rattle.mp_values.specs.declared.meaning.Meaning.{Meaning}
 use Rattle.mp_values.specs.declared.meaning.Meaning.TheVariants.{NewTag}
 use Rattle.mp_values.specs.declared.value.Value.{Value}
 use Rattle.mp_vartree.specs.Variables.{Variables}
+use Rattle.mp_acts.specs.Counts.{Counts}
 
 pub record State : Type 0 where
   -- names with their meanings, internals, and what the open groups give back
@@ -27,6 +28,25 @@ pub record State : Type 0 where
 -- the number of unknowns that values can speak of
 abbrev pub unknown_count : State → ℕ
 unknown_count s = length s.unknowns.states
+
+-- the number of names that have symbols
+abbrev pub symbol_count : State → ℕ
+symbol_count s = length s.symbols.names
+
+abbrev pub internal_count : State → ℕ
+internal_count s = length s.symbols.internals
+
+abbrev pub counts_of : States → List (Option Value) → Table Meaning → Counts
+counts_of unknowns slots symbols = record {
+  unknowns = length unknowns;
+  slots = length slots;
+  symbols = length symbols.names;
+  internals = length symbols.internals;
+}
+
+-- how many unknowns, slots, symbols and internals there are
+abbrev pub counts : State → Counts
+counts s = counts_of s.unknowns.states s.slots s.symbols
 
 -- the number of unknowns that were made
 abbrev pub made_unknowns : State → ℕ

@@ -8,7 +8,8 @@ ghost use Rattle.std.specs.Prelude.{◌≡◌, ◌≢◌, ◌≤◌, ◌<◌, �
 ghost use Rattle.mp_forms.specs.Forms.{form_times_scaled};
 ghost use Rattle.mp_values.specs.Outcome.{Gives, lift};
 ghost use Rattle.mp_values.specs.declared.fault.Fault.TheVariants.{NoMemory as WantOfMemory};
-ghost use Rattle.mp_acts.specs.State.{unknown_count};
+ghost use Rattle.mp_acts.specs.Counts.{IsWithin, nothing};
+ghost use Rattle.mp_acts.specs.State.{unknown_count, counts};
 ghost use Rattle.mp_acts.specs.Reach.{reach, reach_of_form};
 ghost use Rattle.mp_acts.specs.Operands.{or_refused};
 ghost use Rattle.mp_acts.specs.Arithmetic as arithmetic;
@@ -25,9 +26,9 @@ impl State {
     /// A number with an operator before it: `WrongType`, `Overflow`, `CoefficientTooLarge`.
     #[tactic(auto, unfolding(crate::specs::Arithmetic::unary))]
     pub fn unary(&self, op: Unary, value: &Value) -> Result<Value, Fault>
-        requires { reach value.now ≤ unknown_count self.now }
+        requires { IsWithin (reach value.now) (counts self.now) }
         ensures exact { Gives result self.now (arithmetic.unary op value.now self.now) }
-        ensures within { IfOk result (λ v. reach v ≤ unknown_count self.now) }
+        ensures within { IfOk result (λ v. IsWithin (reach v) (counts self.now)) }
     {
         match op {
             Unary::Plus => self.positive(value),
@@ -39,11 +40,11 @@ impl State {
     /// `CoefficientTooLarge`.
     #[tactic(auto, unfolding(crate::specs::Arithmetic::secondary))]
     pub fn secondary(&self, op: Secondary, left: &Value, right: &Value) -> Result<Value, Fault>
-        requires left { reach left.now ≤ unknown_count self.now }
-        requires right { reach right.now ≤ unknown_count self.now }
+        requires left { IsWithin (reach left.now) (counts self.now) }
+        requires right { IsWithin (reach right.now) (counts self.now) }
         ensures exact { Gives result self.now
             (arithmetic.secondary op left.now right.now self.now) }
-        ensures within { IfOk result (λ v. reach v ≤ unknown_count self.now) }
+        ensures within { IfOk result (λ v. IsWithin (reach v) (counts self.now)) }
     {
         match op {
             Secondary::Times => self.product(left, right),
@@ -55,10 +56,10 @@ impl State {
     /// for it: a new unknown is put before the terms of a long sum, and none of them is copied.
     #[tactic(auto, unfolding(crate::specs::Arithmetic::tertiary))]
     pub fn tertiary(&self, op: Tertiary, left: Value, right: &Value) -> Result<Value, Fault>
-        requires left { reach left ≤ unknown_count self.now }
-        requires right { reach right.now ≤ unknown_count self.now }
+        requires left { IsWithin (reach left) (counts self.now) }
+        requires right { IsWithin (reach right.now) (counts self.now) }
         ensures exact { Gives result self.now (arithmetic.tertiary op left right.now self.now) }
-        ensures within { IfOk result (λ v. reach v ≤ unknown_count self.now) }
+        ensures within { IfOk result (λ v. IsWithin (reach v) (counts self.now)) }
     {
         match op {
             Tertiary::Plus => self.sum(left, right),
@@ -70,7 +71,7 @@ impl State {
     #[tactic(auto, unfolding(crate::specs::Reach::reach_of_terms))]
     pub fn number(&self, value: Scaled) -> Value
         ensures exact { result ≡ arithmetic.known_number value }
-        ensures within { reach result ≡ 0 }
+        ensures within { reach result ≡ nothing }
     {
         Value::Numeric(Form::constant_of(self.alloc, value.units()))
     }
@@ -80,7 +81,7 @@ impl State {
     pub fn fraction(&self, over: Scaled, under: Scaled) -> Result<Value, Fault>
         ensures exact { Gives result self.now (lift (arithmetic.fraction over under) self.now) }
         ensures sure { result ≢ Err WantOfMemory }
-        ensures within { IfOk result (λ v. reach v ≡ 0) }
+        ensures within { IfOk result (λ v. reach v ≡ nothing) }
     {
         let units = make_scaled(i64::from(over.units()), i64::from(under.units()))?;
         Ok(self.number(Scaled::new(units)))
@@ -88,18 +89,18 @@ impl State {
 
     #[tactic(auto, unfolding(crate::specs::Arithmetic::positive))]
     fn positive(&self, value: &Value) -> Result<Value, Fault>
-        requires { reach value.now ≤ unknown_count self.now }
+        requires { IsWithin (reach value.now) (counts self.now) }
         ensures exact { Gives result self.now (arithmetic.positive value.now self.now) }
-        ensures within { IfOk result (λ v. reach v ≤ unknown_count self.now) }
+        ensures within { IfOk result (λ v. IsWithin (reach v) (counts self.now)) }
     {
         Ok(Value::Numeric(self.operand(b"+", value)?))
     }
 
     #[tactic(auto, unfolding(crate::specs::Arithmetic::negated))]
     fn negated(&self, value: &Value) -> Result<Value, Fault>
-        requires { reach value.now ≤ unknown_count self.now }
+        requires { IsWithin (reach value.now) (counts self.now) }
         ensures exact { Gives result self.now (arithmetic.negated value.now self.now) }
-        ensures within { IfOk result (λ v. reach v ≤ unknown_count self.now) }
+        ensures within { IfOk result (λ v. IsWithin (reach v) (counts self.now)) }
     {
         let p = self.operand(b"-", value)?;
         Ok(Value::Numeric(self.times(&p, -65536)?))
@@ -107,20 +108,20 @@ impl State {
 
     #[tactic(auto, unfolding(crate::specs::Arithmetic::sum))]
     fn sum(&self, left: Value, right: &Value) -> Result<Value, Fault>
-        requires left { reach left ≤ unknown_count self.now }
-        requires right { reach right.now ≤ unknown_count self.now }
+        requires left { IsWithin (reach left) (counts self.now) }
+        requires right { IsWithin (reach right.now) (counts self.now) }
         ensures exact { Gives result self.now (arithmetic.sum left right.now self.now) }
-        ensures within { IfOk result (λ v. reach v ≤ unknown_count self.now) }
+        ensures within { IfOk result (λ v. IsWithin (reach v) (counts self.now)) }
     {
         Ok(Value::Numeric(self.joined(b"+", ONE, left, right)?))
     }
 
     #[tactic(auto, unfolding(crate::specs::Arithmetic::difference))]
     fn difference(&self, left: Value, right: &Value) -> Result<Value, Fault>
-        requires left { reach left ≤ unknown_count self.now }
-        requires right { reach right.now ≤ unknown_count self.now }
+        requires left { IsWithin (reach left) (counts self.now) }
+        requires right { IsWithin (reach right.now) (counts self.now) }
         ensures exact { Gives result self.now (arithmetic.difference left right.now self.now) }
-        ensures within { IfOk result (λ v. reach v ≤ unknown_count self.now) }
+        ensures within { IfOk result (λ v. IsWithin (reach v) (counts self.now)) }
     {
         Ok(Value::Numeric(self.joined(b"-", -ONE, left, right)?))
     }
@@ -132,8 +133,8 @@ impl State {
         left: &Value,
         right: &Value,
     ) -> Result<Form, Fault>
-        requires left { reach left.now ≤ unknown_count self.now }
-        requires right { reach right.now ≤ unknown_count self.now }
+        requires left { IsWithin (reach left.now) (counts self.now) }
+        requires right { IsWithin (reach right.now) (counts self.now) }
         ensures exact { Gives result self.now
             (arithmetic.difference_by op.now left.now right.now self.now) }
         ensures within { IfOk result (λ p. reach_of_form p ≤ unknown_count self.now) }
@@ -145,8 +146,8 @@ impl State {
     #[tactic(auto, unfolding(crate::specs::Arithmetic::combined))]
     fn combined(&self, op: &[u8], f: i64, left: &Value, right: &Value) -> Result<Form, Fault>
         requires factor { unsigned_abs f < 2 ^ 44 }
-        requires left { reach left.now ≤ unknown_count self.now }
-        requires right { reach right.now ≤ unknown_count self.now }
+        requires left { IsWithin (reach left.now) (counts self.now) }
+        requires right { IsWithin (reach right.now) (counts self.now) }
         ensures exact { Gives result self.now
             (arithmetic.combined op.now f left.now right.now self.now) }
         ensures within { IfOk result (λ p. reach_of_form p ≤ unknown_count self.now) }
@@ -159,8 +160,8 @@ impl State {
     #[tactic(auto, unfolding(crate::specs::Arithmetic::combined))]
     fn joined(&self, op: &[u8], f: i64, left: Value, right: &Value) -> Result<Form, Fault>
         requires factor { unsigned_abs f < 2 ^ 44 }
-        requires left { reach left ≤ unknown_count self.now }
-        requires right { reach right.now ≤ unknown_count self.now }
+        requires left { IsWithin (reach left) (counts self.now) }
+        requires right { IsWithin (reach right.now) (counts self.now) }
         ensures exact { Gives result self.now
             (arithmetic.combined op.now f left right.now self.now) }
         ensures within { IfOk result (λ p. reach_of_form p ≤ unknown_count self.now) }
@@ -172,10 +173,10 @@ impl State {
     /// The product of two numbers, one of which must be known.
     #[tactic(auto, unfolding(crate::specs::Arithmetic::product))]
     fn product(&self, left: &Value, right: &Value) -> Result<Value, Fault>
-        requires left { reach left.now ≤ unknown_count self.now }
-        requires right { reach right.now ≤ unknown_count self.now }
+        requires left { IsWithin (reach left.now) (counts self.now) }
+        requires right { IsWithin (reach right.now) (counts self.now) }
         ensures exact { Gives result self.now (arithmetic.product left.now right.now self.now) }
-        ensures within { IfOk result (λ v. reach v ≤ unknown_count self.now) }
+        ensures within { IfOk result (λ v. IsWithin (reach v) (counts self.now)) }
     {
         let (p, q) = self.operands(b"*", left, right)?;
         Ok(Value::Numeric(self.product_by(&p, &q)?))
@@ -210,10 +211,10 @@ impl State {
     /// The quotient of two numbers, the second of which must be known.
     #[tactic(auto, unfolding(crate::specs::Arithmetic::quotient))]
     fn quotient(&self, left: &Value, right: &Value) -> Result<Value, Fault>
-        requires left { reach left.now ≤ unknown_count self.now }
-        requires right { reach right.now ≤ unknown_count self.now }
+        requires left { IsWithin (reach left.now) (counts self.now) }
+        requires right { IsWithin (reach right.now) (counts self.now) }
         ensures exact { Gives result self.now (arithmetic.quotient left.now right.now self.now) }
-        ensures within { IfOk result (λ v. reach v ≤ unknown_count self.now) }
+        ensures within { IfOk result (λ v. IsWithin (reach v) (counts self.now)) }
     {
         let (p, q) = self.operands(b"/", left, right)?;
         let divisor = self.known(b"/", &q)?;

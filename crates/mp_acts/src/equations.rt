@@ -1,12 +1,13 @@
 //! Equations between two values.
 
-ghost use Rattle.std.specs.Prelude.{◌≡◌, ◌≢◌, ◌≤◌, Ok, Err, IfOk, IfErr};
+ghost use Rattle.std.specs.Prelude.{◌≡◌, ◌≢◌, ◌≤◌, ◌<◌, length, Ok, Err, IfOk, IfErr};
 ghost use Rattle.mp_solver.specs.Elimination.{eliminate};
 ghost use Rattle.mp_solver.specs.Reduction.{reduce_of};
 ghost use Rattle.mp_values.specs.Outcome.{Gives, IsWhole, change, error_of};
 ghost use Rattle.mp_values.specs.declared.fault.Fault.TheVariants.{NoMemory as WantOfMemory};
 ghost use Rattle.mp_vartree.specs.Kinds.{are_of_one_kind};
-ghost use Rattle.mp_acts.specs.State.{unknown_count};
+ghost use Rattle.mp_acts.specs.Counts.{IsWithin, nothing};
+ghost use Rattle.mp_acts.specs.State.{unknown_count, counts};
 ghost use Rattle.mp_acts.specs.Reach.{reach, reach_of_form};
 ghost use Rattle.mp_acts.specs.Operands as operands;
 ghost use Rattle.mp_acts.specs.Equations as equations;
@@ -30,11 +31,11 @@ impl State {
     /// `Inconsistent`. Numbers are made equal by the solver.
     #[tactic(auto, unfolding(crate::specs::Equations::equation))]
     pub fn do_equation(&mut self, left: &Value, right: &Value) -> Result<(), Fault>
-        requires left { reach left.now ≤ unknown_count self.old }
-        requires right { reach right.now ≤ unknown_count self.old }
+        requires left { IsWithin (reach left.now) (counts self.old) }
+        requires right { IsWithin (reach right.now) (counts self.old) }
         ensures exact { Gives result self.new (equations.equation left.now right.now self.old) }
         ensures whole { IsWhole result self.old self.new }
-        ensures counts { unknown_count self.old ≤ unknown_count self.new }
+        ensures counts { IsWithin (counts self.old) (counts self.new) }
     {
         match (left, right) {
             (Value::Numeric(_), Value::Numeric(_)) => self.equate_numbers(left, right),
@@ -48,12 +49,12 @@ impl State {
 
     /// Makes two values equal that are no filled slots.
     fn equate_settled(&mut self, left: &Value, right: &Value) -> Result<(), Fault>
-        requires left { reach left.now ≤ unknown_count self.old }
-        requires right { reach right.now ≤ unknown_count self.old }
+        requires left { IsWithin (reach left.now) (counts self.old) }
+        requires right { IsWithin (reach right.now) (counts self.old) }
         ensures exact { Gives result self.new
             (equations.equate_as (are_of_one_kind left.now right.now) left.now right.now self.old) }
         ensures whole { IsWhole result self.old self.new }
-        ensures counts { unknown_count self.old ≤ unknown_count self.new }
+        ensures counts { IsWithin (counts self.old) (counts self.new) }
     {
         if have_one_kind(left, right) {
             self.equate(left, right)
@@ -64,11 +65,11 @@ impl State {
 
     /// Makes two values of one type equal that are no filled slots.
     fn equate(&mut self, left: &Value, right: &Value) -> Result<(), Fault>
-        requires left { reach left.now ≤ unknown_count self.old }
-        requires right { reach right.now ≤ unknown_count self.old }
+        requires left { IsWithin (reach left.now) (counts self.old) }
+        requires right { IsWithin (reach right.now) (counts self.old) }
         ensures exact { Gives result self.new (equations.equate left.now right.now self.old) }
         ensures whole { IsWhole result self.old self.new }
-        ensures counts { unknown_count self.old ≤ unknown_count self.new }
+        ensures counts { IsWithin (counts self.old) (counts self.new) }
     {
         match (left, right) {
             (Value::Unset(..), Value::Unset(..)) => Err(Fault::not_known(self.alloc, b"=")),
@@ -80,11 +81,11 @@ impl State {
 
     /// Makes two values equal that have no slots.
     fn equate_known(&mut self, left: &Value, right: &Value) -> Result<(), Fault>
-        requires left { reach left.now ≤ unknown_count self.old }
-        requires right { reach right.now ≤ unknown_count self.old }
+        requires left { IsWithin (reach left.now) (counts self.old) }
+        requires right { IsWithin (reach right.now) (counts self.old) }
         ensures exact { Gives result self.new (equations.equate_known left.now right.now self.old) }
         ensures whole { IsWhole result self.old self.new }
-        ensures counts { unknown_count self.old ≤ unknown_count self.new }
+        ensures counts { IsWithin (counts self.old) (counts self.new) }
     {
         match (left, right) {
             (Value::Numeric(_), _) => self.equate_numbers(left, right),
@@ -97,17 +98,16 @@ impl State {
         }
     }
 
-    /// Fills a slot with a value; a number past the slots changes nothing.
+    /// Fills a slot with a value.
     fn fill(&mut self, slot: u32, value: &Value) -> Result<(), Fault>
-        requires { reach value.now ≤ unknown_count self.old }
+        requires slot { slot < length self.old.slots }
+        requires value { IsWithin (reach value.now) (counts self.old) }
         ensures exact { Gives result self.new (change (equations.fill slot value.now) self.old) }
         ensures whole { IsWhole result self.old self.new }
-        ensures counts { unknown_count self.old ≤ unknown_count self.new }
+        ensures counts { IsWithin (counts self.old) (counts self.new) }
     {
         let value = value.copy(self.alloc)?;
-        if (slot as usize) < self.slots.len() {
-            self.slots[slot as usize] = Some(value);
-        }
+        self.slots[slot as usize] = Some(value);
         Ok(())
     }
 
@@ -115,7 +115,7 @@ impl State {
     fn agree(&mut self, equal: bool) -> Result<(), Fault>
         ensures exact { Gives result self.new (equations.agree equal self.old) }
         ensures whole { IsWhole result self.old self.new }
-        ensures counts { unknown_count self.old ≤ unknown_count self.new }
+        ensures counts { IsWithin (counts self.old) (counts self.new) }
     {
         if equal {
             self.redundant(0)
@@ -131,12 +131,12 @@ impl State {
     /// 4,000,000 terms) refuse it too. Only an equation that is accepted changes what is known of unknowns.
     #[tactic(auto, unfolding(crate::specs::Equations::equate_numbers))]
     fn equate_numbers(&mut self, left: &Value, right: &Value) -> Result<(), Fault>
-        requires left { reach left.now ≤ unknown_count self.old }
-        requires right { reach right.now ≤ unknown_count self.old }
+        requires left { IsWithin (reach left.now) (counts self.old) }
+        requires right { IsWithin (reach right.now) (counts self.old) }
         ensures exact { Gives result self.new
             (equations.equate_numbers left.now right.now self.old) }
         ensures whole { IsWhole result self.old self.new }
-        ensures counts { unknown_count self.old ≤ unknown_count self.new }
+        ensures counts { IsWithin (counts self.old) (counts self.new) }
     {
         let difference = self.difference_by(b"=", left, right)?;
         let ready = self.ready(&difference)?;
@@ -170,7 +170,7 @@ impl State {
         ensures exact { Gives result self.new
             (equations.vanish difference.now ready.residual self.old) }
         ensures whole { IsWhole result self.old self.new }
-        ensures counts { unknown_count self.old ≤ unknown_count self.new }
+        ensures counts { IsWithin (counts self.old) (counts self.new) }
     {
         match self.take(difference, ready)? {
             Equated::Accepted => Ok(()),
@@ -197,7 +197,7 @@ impl State {
         ensures accepted { result ≡ Ok Equated.Accepted
             → self.new ≡ equations.with_equation self.old difference.now self.new.unknowns.states }
         ensures refused { result ≢ Ok Equated.Accepted → self.new ≡ self.old }
-        ensures counts { unknown_count self.new ≡ unknown_count self.old }
+        ensures counts { IsWithin (counts self.old) (counts self.new) }
     {
         // Asked for its contract alone: a form's terms are in order, as an event's have to be.
         let _terms = difference.terms();
@@ -214,7 +214,7 @@ impl State {
     fn redundant(&mut self, residual: i32) -> Result<(), Fault>
         ensures exact { Gives result self.new (equations.redundant residual self.old) }
         ensures whole { IsWhole result self.old self.new }
-        ensures counts { unknown_count self.old ≤ unknown_count self.new }
+        ensures counts { IsWithin (counts self.old) (counts self.new) }
     {
         let mut line = Bytes::copy_of(self.alloc, b"## redundant ")?;
         push_scaled(&mut line, residual)?;

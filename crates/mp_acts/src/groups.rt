@@ -1,16 +1,17 @@
 //! Groups, and the statements that change what symbols mean.
 
-ghost use Rattle.std.specs.Prelude.{◌≡◌, ◌≤◌, ◌<◌, Ok, Err, length, true, false, OnOk};
+ghost use Rattle.std.specs.Prelude.{◌≡◌, ◌<◌, Ok, Err, length, true, false, OnOk};
 ghost use Rattle.mp_symbols.specs.Groups.{close_group};
 ghost use Rattle.mp_values.specs.Outcome.{Gives, IsWhole, change};
 ghost use Rattle.mp_values.specs.declared.fault.Fault.TheVariants.{NoMemory as WantOfMemory};
-ghost use Rattle.mp_acts.specs.State.{unknown_count};
-ghost use Rattle.mp_acts.specs.Reach.{reach};
+ghost use Rattle.mp_acts.specs.Counts.{IsWithin};
+ghost use Rattle.mp_acts.specs.State.{counts, symbol_count, internal_count};
+ghost use Rattle.mp_acts.specs.Reach.{reach, reach_of_meaning};
 ghost use Rattle.mp_acts.specs.Groups as groups;
 ghost use Rattle.mp_acts.specs.Groups.{IsUndoneInPart, with_symbols};
 ghost use Rattle.mp_acts.specs.Variables.{IsForgetting};
 
-use crate::{State, table};
+use crate::State;
 use mp_scaled::NoMemory;
 use mp_symbols::Closed;
 use mp_values::{Delimiters, Fault, Meaning, SymbolCommand, Value};
@@ -20,7 +21,7 @@ impl State {
     pub fn do_begin_group(&mut self) -> Result<(), Fault>
         ensures exact { Gives result self.new (change groups.begin_group self.old) }
         ensures whole { IsWhole result self.old self.new }
-        ensures counts { unknown_count self.old ≤ unknown_count self.new }
+        ensures counts { IsWithin (counts self.old) (counts self.new) }
     {
         self.symbols.open_group()?;
         Ok(())
@@ -33,7 +34,7 @@ impl State {
     pub fn do_end_group(&mut self) -> Result<(), Fault>
         ensures exact { Gives result self.new (change groups.end_group self.old) }
         ensures part { result ≡ Err WantOfMemory → IsUndoneInPart self.old self.new }
-        ensures counts { unknown_count self.old ≤ unknown_count self.new }
+        ensures counts { IsWithin (counts self.old) (counts self.new) }
     {
         'changes: while self.undo()? {}
         Ok(())
@@ -49,9 +50,9 @@ impl State {
             → length self.new.symbols.saved < length self.old.symbols.saved }
         ensures symbols { self.new.symbols ≡ (close_group self.old.symbols).1 }
         ensures rest { IsForgetting (with_symbols self.old self.new.symbols) self.new }
-        ensures counts { unknown_count self.old ≡ unknown_count self.new }
+        ensures counts { IsWithin (counts self.old) (counts self.new) }
     {
-        match self.symbols.close_group() {
+        match self.undo_newest() {
             Closed::Meaning(_, given_up) => {
                 self.forget(given_up)?;
                 Ok(true)
@@ -65,7 +66,7 @@ impl State {
     fn forget(&mut self, given_up: Meaning) -> Result<(), NoMemory>
         ensures exact { OnOk result (self.new ≡ groups.without_tag given_up self.old) }
         ensures rest { IsForgetting self.old self.new }
-        ensures counts { unknown_count self.new ≡ unknown_count self.old }
+        ensures counts { IsWithin (counts self.old) (counts self.new) }
     {
         match given_up {
             Meaning::Tag(root) => self.forget_root(root),
@@ -74,11 +75,12 @@ impl State {
     }
 
     /// Does to a symbol what a word does to each symbol of its list: makes it a new tag up to the end of the group, and
-    /// for good where no group is open, or makes it a new internal of value 0. A symbol past the table is left.
+    /// for good where no group is open, or makes it a new internal of value 0.
     pub fn do_symbol(&mut self, command: SymbolCommand, symbol: u32) -> Result<(), Fault>
+        requires { symbol < symbol_count self.old }
         ensures exact { Gives result self.new (change (groups.with_each command symbol) self.old) }
         ensures whole { IsWhole result self.old self.new }
-        ensures counts { unknown_count self.old ≤ unknown_count self.new }
+        ensures counts { IsWithin (counts self.old) (counts self.new) }
     {
         match command {
             SymbolCommand::Save => self.save(symbol),
@@ -88,66 +90,72 @@ impl State {
 
     #[tactic(auto, unfolding(crate::specs::Groups::save))]
     fn save(&mut self, symbol: u32) -> Result<(), Fault>
+        requires { symbol < symbol_count self.old }
         ensures exact { Gives result self.new (change (groups.save symbol) self.old) }
         ensures whole { IsWhole result self.old self.new }
-        ensures counts { unknown_count self.old ≤ unknown_count self.new }
+        ensures counts { IsWithin (counts self.old) (counts self.new) }
     {
-        table::save(&mut self.symbols, symbol)?;
-        Ok(())
+        Ok(self.save_meaning(symbol)?)
     }
 
     #[tactic(auto, unfolding(crate::specs::Groups::new_internal))]
     fn new_internal(&mut self, symbol: u32) -> Result<(), Fault>
+        requires { symbol < symbol_count self.old }
         ensures exact { Gives result self.new (change (groups.new_internal symbol) self.old) }
         ensures whole { IsWhole result self.old self.new }
-        ensures counts { unknown_count self.old ≤ unknown_count self.new }
+        ensures counts { IsWithin (counts self.old) (counts self.new) }
     {
-        let k = self.symbols.new_internal(0)?;
-        table::set_meaning(&mut self.symbols, symbol, Meaning::Internal(k));
+        let k = self.add_internal(0)?;
+        self.set_meaning(symbol, Meaning::Internal(k));
         Ok(())
     }
 
     /// Gives a symbol what another one means; a tag is not shared, but new. It takes no memory.
     #[tactic(auto, unfolding(crate::specs::Groups::let_symbol))]
     pub fn do_let(&mut self, symbol: u32, other: u32)
+        requires symbol { symbol < symbol_count self.old }
+        requires other { other < symbol_count self.old }
         ensures exact { self.new ≡ groups.let_symbol symbol other self.old }
-        ensures counts { unknown_count self.old ≤ unknown_count self.new }
+        ensures counts { IsWithin (counts self.old) (counts self.new) }
     {
         let meaning = copied(self.symbol_meaning(other));
-        table::set_meaning(&mut self.symbols, symbol, meaning);
+        self.set_meaning(symbol, meaning);
     }
 
     /// Makes two symbols a pair of delimiters. It takes no memory.
     #[tactic(auto, unfolding(crate::specs::Groups::delimiters))]
     pub fn do_delimiters(&mut self, left: u32, right: u32)
+        requires left { left < symbol_count self.old }
+        requires right { right < symbol_count self.old }
         ensures exact { self.new ≡ groups.delimiters left right self.old }
-        ensures counts { unknown_count self.old ≤ unknown_count self.new }
+        ensures counts { IsWithin (counts self.old) (counts self.new) }
     {
         let pair = Delimiters { left, right };
-        table::set_meaning(&mut self.symbols, left, Meaning::Left(pair));
-        table::set_meaning(&mut self.symbols, right, Meaning::Right(pair));
+        self.set_meaning(left, Meaning::Left(pair));
+        self.set_meaning(right, Meaning::Right(pair));
     }
 
-    /// Gives an internal a known value, up to the end of the group: `WrongType`, `NotKnown`. A number past the
-    /// internals is left.
+    /// Gives an internal a known value, up to the end of the group: `WrongType`, `NotKnown`.
     #[tactic(auto, unfolding(crate::specs::Groups::interim))]
     pub fn do_interim(&mut self, k: u32, value: &Value) -> Result<(), Fault>
-        requires { reach value.now ≤ unknown_count self.old }
+        requires internal { k < internal_count self.old }
+        requires value { IsWithin (reach value.now) (counts self.old) }
         ensures exact { Gives result self.new (groups.interim k value.now self.old) }
         ensures whole { IsWhole result self.old self.new }
-        ensures counts { unknown_count self.old ≤ unknown_count self.new }
+        ensures counts { IsWithin (counts self.old) (counts self.new) }
     {
         let form = self.operand(b"interim", value)?;
         let value = self.known(b"interim", &form)?;
-        table::keep_internal(&mut self.symbols, k)?;
-        table::set_internal(&mut self.symbols, k, value);
+        self.save_internal(k)?;
+        self.set_internal(k, value);
         Ok(())
     }
 }
 
 /// What a symbol gets that is let have this meaning.
 fn copied(meaning: &Meaning) -> Meaning
-    ensures { result ≡ groups.copied meaning.now }
+    ensures exact { result ≡ groups.copied meaning.now }
+    ensures within { IsWithin (reach_of_meaning result) (reach_of_meaning meaning.now) }
 {
     match meaning {
         Meaning::Tag(_) => Meaning::NewTag,

@@ -2,7 +2,8 @@
 
 ghost use Rattle.std.specs.Prelude.{◌≤◌};
 ghost use Rattle.mp_values.specs.Outcome.{Gives, IsWhole};
-ghost use Rattle.mp_acts.specs.State.{unknown_count};
+ghost use Rattle.mp_acts.specs.Counts.{IsWithin};
+ghost use Rattle.mp_acts.specs.State.{counts};
 ghost use Rattle.mp_acts.specs.Reach.{reach};
 ghost use Rattle.mp_acts.specs.Lines as lines;
 
@@ -17,7 +18,7 @@ impl State {
     pub fn do_line(&mut self, text: &[u8]) -> Result<(), Fault>
         ensures exact { Gives result self.new (lines.line text.now self.old) }
         ensures whole { IsWhole result self.old self.new }
-        ensures counts { unknown_count self.old ≤ unknown_count self.new }
+        ensures counts { IsWithin (counts self.old) (counts self.new) }
     {
         let line = Bytes::copy_of(self.alloc, text)?;
         self.add_line(line)
@@ -26,10 +27,10 @@ impl State {
     /// Shows a value, a number brought up to date, on a line of its own that begins with `>> `.
     #[tactic(auto, unfolding(crate::specs::Lines::show))]
     pub fn do_show(&mut self, value: &Value) -> Result<(), Fault>
-        requires { reach value.now ≤ unknown_count self.old }
+        requires { IsWithin (reach value.now) (counts self.old) }
         ensures exact { Gives result self.new (lines.show value.now self.old) }
         ensures whole { IsWhole result self.old self.new }
-        ensures counts { unknown_count self.old ≤ unknown_count self.new }
+        ensures counts { IsWithin (counts self.old) (counts self.new) }
     {
         let mut line = Bytes::copy_of(self.alloc, b">> ")?;
         let text = self.value_text(value)?;
@@ -41,10 +42,10 @@ impl State {
     /// `WrongType` for a value that is no string, `NotKnown` for one without a value.
     #[tactic(auto, unfolding(crate::specs::Lines::speak))]
     pub fn do_speak(&mut self, speech: Speech, value: &Value) -> Result<(), Fault>
-        requires { reach value.now ≤ unknown_count self.old }
+        requires { IsWithin (reach value.now) (counts self.old) }
         ensures exact { Gives result self.new (lines.speak speech value.now self.old) }
         ensures whole { IsWhole result self.old self.new }
-        ensures counts { unknown_count self.old ≤ unknown_count self.new }
+        ensures counts { IsWithin (counts self.old) (counts self.new) }
     {
         match speech {
             Speech::Message => self.message(value),
@@ -55,10 +56,10 @@ impl State {
 
     #[tactic(auto, unfolding(crate::specs::Lines::message))]
     fn message(&mut self, value: &Value) -> Result<(), Fault>
-        requires { reach value.now ≤ unknown_count self.old }
+        requires { IsWithin (reach value.now) (counts self.old) }
         ensures exact { Gives result self.new (lines.message value.now self.old) }
         ensures whole { IsWhole result self.old self.new }
-        ensures counts { unknown_count self.old ≤ unknown_count self.new }
+        ensures counts { IsWithin (counts self.old) (counts self.new) }
     {
         let text = self.text(b"message", value)?;
         self.do_line(text.as_slice())
@@ -66,7 +67,7 @@ impl State {
 
     #[tactic(auto, unfolding(crate::specs::Lines::errmessage))]
     fn errmessage(&self, value: &Value) -> Result<(), Fault>
-        requires { reach value.now ≤ unknown_count self.now }
+        requires { IsWithin (reach value.now) (counts self.now) }
         ensures { Gives result self.now (lines.errmessage value.now self.now) }
     {
         let text = self.text(b"errmessage", value)?;
@@ -76,7 +77,7 @@ impl State {
 
     #[tactic(auto, unfolding(crate::specs::Lines::errhelp))]
     fn errhelp(&self, value: &Value) -> Result<(), Fault>
-        requires { reach value.now ≤ unknown_count self.now }
+        requires { IsWithin (reach value.now) (counts self.now) }
         ensures { Gives result self.now (lines.errhelp value.now self.now) }
     {
         self.text(b"errhelp", value)?;
@@ -88,7 +89,7 @@ impl State {
     pub(crate) fn add_line(&mut self, mut line: Bytes) -> Result<(), Fault>
         ensures exact { Gives result self.new (lines.line line self.old) }
         ensures whole { IsWhole result self.old self.new }
-        ensures counts { unknown_count self.old ≤ unknown_count self.new }
+        ensures counts { IsWithin (counts self.old) (counts self.new) }
     {
         let limit = LINES_LIMIT as usize;
         let length = line.as_slice().len();

@@ -1,8 +1,9 @@
 //! Operands: their types, brought up to date, known.
 
-ghost use Rattle.std.specs.Prelude.{◌≡◌, ◌≤◌, IfOk, IfSome, option_copied};
+ghost use Rattle.std.specs.Prelude.{◌≡◌, ◌≤◌, ◌<◌, length, IfOk, IfSome, option_copied};
 ghost use Rattle.mp_values.specs.Outcome.{Gives};
-ghost use Rattle.mp_acts.specs.State.{unknown_count};
+ghost use Rattle.mp_acts.specs.Counts.{IsWithin};
+ghost use Rattle.mp_acts.specs.State.{unknown_count, counts};
 ghost use Rattle.mp_acts.specs.Reach.{reach, reach_of_form};
 ghost use Rattle.mp_acts.specs.Operands as operands;
 ghost use Rattle.mp_acts.specs.Arithmetic as arithmetic;
@@ -34,7 +35,7 @@ impl State {
     /// The form of a number, brought up to date.
     #[tactic(auto, unfolding(crate::specs::Operands::operand))]
     pub(crate) fn operand(&self, op: &[u8], value: &Value) -> Result<Form, Fault>
-        requires { reach value.now ≤ unknown_count self.now }
+        requires { IsWithin (reach value.now) (counts self.now) }
         ensures exact { Gives result self.now (operands.operand op.now value.now self.now) }
         ensures within { IfOk result (λ p. reach_of_form p ≤ unknown_count self.now) }
     {
@@ -51,8 +52,8 @@ impl State {
         left: &Value,
         right: &Value,
     ) -> Result<(Form, Form), Fault>
-        requires left { reach left.now ≤ unknown_count self.now }
-        requires right { reach right.now ≤ unknown_count self.now }
+        requires left { IsWithin (reach left.now) (counts self.now) }
+        requires right { IsWithin (reach right.now) (counts self.now) }
         ensures exact { Gives result self.now
             (arithmetic.operands op.now left.now right.now self.now) }
         ensures within_left { IfOk result (λ both. reach_of_form both.0 ≤ unknown_count self.now) }
@@ -75,8 +76,8 @@ impl State {
         left: Value,
         right: &Value,
     ) -> Result<(Form, Form), Fault>
-        requires left { reach left ≤ unknown_count self.now }
-        requires right { reach right.now ≤ unknown_count self.now }
+        requires left { IsWithin (reach left) (counts self.now) }
+        requires right { IsWithin (reach right.now) (counts self.now) }
         ensures exact { Gives result self.now (arithmetic.operands op.now left right.now self.now) }
         ensures within_left { IfOk result (λ both. reach_of_form both.0 ≤ unknown_count self.now) }
         ensures within_right { IfOk result (λ both. reach_of_form both.1 ≤ unknown_count self.now) }
@@ -104,20 +105,18 @@ impl State {
 
     /// What a slot was filled with, if it was.
     fn slot(&self, slot: u32) -> Option<&Value>
+        requires { slot < length self.now.slots }
         ensures held { option_copied result ≡ operands.slot_in self.now.slots slot }
-        ensures within { IfSome result (λ v. reach v.now ≤ unknown_count self.now) }
+        ensures within { IfSome result (λ v. IsWithin (reach v.now) (counts self.now)) }
     {
-        match self.slots.get(slot as usize) {
-            Some(filled) => filled.as_ref(),
-            None => None,
-        }
+        self.slots[slot as usize].as_ref()
     }
 
     /// The value itself, or what its slot was filled with.
     pub(crate) fn settled<'a>(&'a self, value: &'a Value) -> &'a Value
-        requires { reach value.now ≤ unknown_count self.now }
+        requires { IsWithin (reach value.now) (counts self.now) }
         ensures exact { result.now ≡ operands.settled self.now.slots value.now }
-        ensures within { reach result.now ≤ unknown_count self.now }
+        ensures within { IsWithin (reach result.now) (counts self.now) }
     {
         match value {
             Value::Unset(_, slot) => self.slot(*slot).unwrap_or(value),
@@ -127,7 +126,7 @@ impl State {
 
     /// The bytes of a string, shared; it must be known.
     pub(crate) fn text(&self, op: &[u8], value: &Value) -> Result<SharedSlice<u8>, Fault>
-        requires { reach value.now ≤ unknown_count self.now }
+        requires { IsWithin (reach value.now) (counts self.now) }
         ensures { Gives result self.now (operands.text op.now value.now self.now) }
     {
         match self.settled(value) {

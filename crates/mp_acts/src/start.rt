@@ -15,14 +15,12 @@ use std::alloc::Global;
 impl State {
     /// The state at the start of a run: the names of the language, no variables, no unknowns, no events
     /// and no lines.
-    #[tactic(auto, using(crate::proofs::EventLemmas::no_events))]
     pub fn new(alloc: Global) -> Result<State, NoMemory>
         ensures { IfOk result (λ state. state ≡ first_state) }
     {
         Ok(State {
             alloc,
             symbols: first_symbols(alloc)?,
-            past: Meaning::NewTag,
             variables: Vars::new(alloc),
             slots: Vec::new(alloc),
             system: System::new(alloc),

@@ -14,14 +14,12 @@ use std::marker::Model;
 
 /// What statements act on. Contracts see the symbols, the variables, the slots, the unknowns, the events and the lines.
 ///
-/// The variables and the slots speak of unknowns that there are, and the unknowns are what the events, and no others,
-/// have made of them.
+/// The variables, the slots and the meanings of symbols speak of nothing that there is not, and the unknowns are what the
+/// events, and no others, have made of them.
 #[derive(Drop)]
 pub struct State {
     pub(crate) alloc: Global,
     pub(crate) symbols: Symbols<Meaning>,
-    /// What symbols past the table mean; it stands here to be lent.
-    pub(crate) past: Meaning,
     pub(crate) variables: Vars,
     /// What the slots of variables without a value were filled with.
     pub(crate) slots: Vec<Option<Value>>,
@@ -50,7 +48,7 @@ impl Model for State {
       lines = s.lines;
     } };
 
-    ghost invariant = { λ s. IsKept s.past s.count s.system.unknowns s.variables s.slots.items (map event_of s.events.items) };
+    ghost invariant = { λ s. IsKept s.count s.system.unknowns s.variables s.slots.items s.symbols (map event_of s.events.items) };
 }
 
 impl State {

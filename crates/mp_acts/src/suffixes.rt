@@ -1,10 +1,11 @@
 //! The parts of names: how they are written, and what a subscript is.
 
-ghost use Rattle.std.specs.Prelude.{◌≡◌, ◌≤◌, ◌++◌, OnOk, IfOk};
+ghost use Rattle.std.specs.Prelude.{◌≡◌, ◌<◌, ◌++◌, OnOk, IfOk};
 ghost use Rattle.mp_scaled.specs.Print.{printed};
 ghost use Rattle.mp_values.specs.Outcome.{Gives};
-ghost use Rattle.mp_acts.specs.State.{unknown_count};
-ghost use Rattle.mp_acts.specs.Reach.{reach};
+ghost use Rattle.mp_acts.specs.Counts.{IsWithin, greatest};
+ghost use Rattle.mp_acts.specs.State.{counts, symbol_count};
+ghost use Rattle.mp_acts.specs.Reach.{reach, reach_of_part};
 ghost use Rattle.mp_acts.specs.Suffixes as suffixes;
 
 use crate::State;
@@ -20,7 +21,7 @@ impl State {
     #[tactic(auto, unfolding(crate::specs::Suffixes::string_token))]
     pub fn string_token(&self, bytes: SharedSlice<u8>) -> Result<Value, Fault>
         ensures exact { Gives result self.now (suffixes.string_token bytes self.now) }
-        ensures within { IfOk result (λ v. reach v ≤ unknown_count self.now) }
+        ensures within { IfOk result (λ v. IsWithin (reach v) (counts self.now)) }
     {
         if bytes.as_slice().len() > TEXT_LIMIT as usize {
             return Err(Fault::Refused(SourceError::Limit(Cap::Text, TEXT_LIMIT)));
@@ -31,14 +32,16 @@ impl State {
     /// The text of a suffix as a string: `Limit` where it has more than 65536 bytes.
     #[tactic(auto, unfolding(crate::specs::Suffixes::suffix_string))]
     pub fn suffix_string(&self, suffix: &[Part]) -> Result<Value, Fault>
+        requires { IsWithin (greatest reach_of_part suffix.now) (counts self.now) }
         ensures exact { Gives result self.now (suffixes.suffix_string suffix.now self.now) }
-        ensures within { IfOk result (λ v. reach v ≤ unknown_count self.now) }
+        ensures within { IfOk result (λ v. IsWithin (reach v) (counts self.now)) }
     {
         let text = self.suffix_text(suffix)?;
         self.string_token(SharedSlice::from_vec(text.into_vec())?)
     }
 
     fn suffix_text(&self, suffix: &[Part]) -> Result<Bytes, NoMemory>
+        requires { IsWithin (greatest reach_of_part suffix.now) (counts self.now) }
         ensures { IfOk result (λ text. text ≡ suffixes.suffix_text self.now suffix.now) }
     {
         let mut text = Bytes::new(self.alloc);
@@ -49,6 +52,8 @@ impl State {
     /// The name of a variable: its tag, and the parts behind it.
     #[tactic(auto, unfolding(crate::specs::Suffixes::parts_text))]
     pub(crate) fn variable_name(&self, symbol: u32, suffix: &[Part]) -> Result<Bytes, NoMemory>
+        requires symbol { symbol < symbol_count self.now }
+        requires suffix { IsWithin (greatest reach_of_part suffix.now) (counts self.now) }
         ensures { IfOk result (λ text. text ≡ suffixes.variable_name self.now symbol suffix.now) }
     {
         let tag = Part::Sym(symbol);
@@ -65,6 +70,7 @@ impl State {
         before: Option<Part>,
         parts: &[Part],
     ) -> Result<(), NoMemory>
+        requires { IsWithin (greatest reach_of_part parts.now) (counts self.now) }
         ensures { OnOk result (text.new ≡ text.old ++ suffixes.parts_text self.now before parts.now) }
     {
         let mut last = before;
@@ -77,6 +83,7 @@ impl State {
 
     /// Adds a part, behind that one if there is one.
     fn push_part(&self, text: &mut Bytes, before: Option<Part>, part: Part) -> Result<(), NoMemory>
+        requires { IsWithin (reach_of_part part) (counts self.now) }
         ensures { OnOk result (text.new ≡ text.old ++ suffixes.part_text self.now before part) }
     {
         match part {
@@ -91,7 +98,7 @@ impl State {
     /// The units of a subscript, which must be a known number: `BadSubscript`.
     #[tactic(auto, unfolding(crate::specs::Suffixes::subscript))]
     pub fn subscript(&self, value: &Value) -> Result<i32, Fault>
-        requires { reach value.now ≤ unknown_count self.now }
+        requires { IsWithin (reach value.now) (counts self.now) }
         ensures { Gives result self.now (suffixes.subscript value.now self.now) }
     {
         match value {

@@ -1,90 +1,84 @@
-//! The table of names at any number: past its symbols or internals nothing is read or changed.
+//! The table of names of a state: its changes, each of which leaves meanings that speak of what there is.
 
-ghost use Rattle.std.specs.Prelude.{◌≡◌, [], pos, unwrap_or, slice_get, OnOk, OnErr};
-ghost use Rattle.mp_symbols.specs.Names.{name_in, meaning_in};
+ghost use Rattle.std.specs.Prelude.{◌≡◌, ◌<◌, ◌++◌, [], ◌∷◌, length, IfOk, OnOk, OnErr};
 ghost use Rattle.mp_symbols.specs.Groups as table;
 ghost use Rattle.mp_values.specs.declared.meaning.Meaning.TheVariants.{NewTag};
+ghost use Rattle.mp_acts.specs.Counts.{IsWithin};
+ghost use Rattle.mp_acts.specs.Groups.{with_symbols};
+ghost use Rattle.mp_acts.specs.Reach.{reach_of_meaning};
+ghost use Rattle.mp_acts.specs.State.{counts, symbol_count, internal_count};
 
+use crate::State;
 use mp_scaled::NoMemory;
-use mp_symbols::Symbols;
+use mp_symbols::Closed;
 use mp_values::Meaning;
 
-/// The name of a symbol; past the table the empty one.
-pub(crate) fn name_of(symbols: &Symbols<Meaning>, symbol: u32) -> &[u8]
-    ensures { result.now ≡ unwrap_or (name_in symbols.now.names symbol) [] }
-{
-    if symbols.has(symbol) {
-        symbols.name_of(symbol)
-    } else {
-        &[]
+impl State {
+    /// Gives a symbol another meaning.
+    #[tactic(auto, using(crate::proofs::MeaningLemmas::more_set))]
+    pub(crate) fn set_meaning(&mut self, symbol: u32, new: Meaning)
+        requires symbol { symbol < symbol_count self.old }
+        requires within { IsWithin (reach_of_meaning new) (counts self.old) }
+        ensures exact { self.new ≡ with_symbols self.old (table.with_symbol self.old.symbols symbol new) }
+        ensures counts { IsWithin (counts self.old) (counts self.new) }
+    {
+        self.symbols.set_meaning(symbol, new);
     }
-}
 
-/// The meaning of a symbol, which is lent; past the table that other one.
-pub(crate) fn meaning_of<'a>(
-    symbols: &'a Symbols<Meaning>,
-    symbol: u32,
-    past: &'a Meaning,
-) -> &'a Meaning
-    ensures { result.now ≡ unwrap_or (meaning_in symbols.now.names symbol) past.now }
-{
-    if symbols.has(symbol) {
-        symbols.meaning(symbol)
-    } else {
-        past
+    /// Makes a symbol a new tag, up to the end of the group.
+    #[tactic(auto, using(crate::proofs::MeaningLemmas::more_saved))]
+    pub(crate) fn save_meaning(&mut self, symbol: u32) -> Result<(), NoMemory>
+        requires { symbol < symbol_count self.old }
+        ensures ok { OnOk result (self.new
+            ≡ with_symbols self.old (table.save self.old.symbols symbol NewTag)) }
+        ensures err { OnErr result (self.new ≡ self.old) }
+        ensures counts { IsWithin (counts self.old) (counts self.new) }
+    {
+        self.symbols.save(symbol, Meaning::NewTag)?;
+        Ok(())
     }
-}
 
-/// Gives a symbol another meaning.
-#[tactic(auto, using(crate::proofs::TableLemmas::table_steps))]
-pub(crate) fn set_meaning(symbols: &mut Symbols<Meaning>, symbol: u32, new: Meaning)
-    ensures { symbols.new ≡ table.with_symbol symbols.old symbol new }
-{
-    if symbols.has(symbol) {
-        symbols.set_meaning(symbol, new);
+    /// One more internal, of that value.
+    pub(crate) fn add_internal(&mut self, value: i32) -> Result<u32, NoMemory>
+        ensures number { IfOk result (λ k. k ≡ length self.old.symbols.internals) }
+        ensures ok { OnOk result (self.new ≡ with_symbols self.old (record self.old.symbols {
+          internals = self.old.symbols.internals ++ value ∷ [];
+        })) }
+        ensures within { IfOk result (λ k. k < internal_count self.new) }
+        ensures err { OnErr result (self.new ≡ self.old) }
+        ensures counts { IsWithin (counts self.old) (counts self.new) }
+    {
+        Ok(self.symbols.new_internal(value)?)
     }
-}
 
-/// Makes a symbol a new tag, up to the end of the group.
-#[tactic(auto, using(crate::proofs::TableLemmas::table_steps))]
-pub(crate) fn save(symbols: &mut Symbols<Meaning>, symbol: u32) -> Result<(), NoMemory>
-    ensures ok { OnOk result (symbols.new ≡ table.save symbols.old symbol NewTag) }
-    ensures err { OnErr result (symbols.new ≡ symbols.old) }
-{
-    if symbols.has(symbol) {
-        symbols.save(symbol, Meaning::NewTag)?;
+    /// Gives an internal another value.
+    pub(crate) fn set_internal(&mut self, k: u32, value: i32)
+        requires { k < internal_count self.old }
+        ensures exact { self.new ≡ with_symbols self.old (table.with_internal self.old.symbols k value) }
+        ensures counts { IsWithin (counts self.old) (counts self.new) }
+    {
+        self.symbols.set_internal(k, value);
     }
-    Ok(())
-}
 
-/// The value of an internal; past them 0.
-pub(crate) fn internal(symbols: &Symbols<Meaning>, k: u32) -> i32
-    ensures { result ≡ unwrap_or (slice_get symbols.now.internals k) (pos 0) }
-{
-    if symbols.has_internal(k) {
-        symbols.internal(k)
-    } else {
-        0
+    /// Keeps the present value of an internal for the end of the group.
+    pub(crate) fn save_internal(&mut self, k: u32) -> Result<(), NoMemory>
+        requires { k < internal_count self.old }
+        ensures ok { OnOk result (self.new
+            ≡ with_symbols self.old (table.save_internal self.old.symbols k)) }
+        ensures err { OnErr result (self.new ≡ self.old) }
+        ensures counts { IsWithin (counts self.old) (counts self.new) }
+    {
+        self.symbols.save_internal(k)?;
+        Ok(())
     }
-}
 
-/// Gives an internal another value.
-pub(crate) fn set_internal(symbols: &mut Symbols<Meaning>, k: u32, value: i32)
-    ensures { symbols.new ≡ table.with_internal symbols.old k value }
-{
-    if symbols.has_internal(k) {
-        symbols.set_internal(k, value);
+    /// Undoes the newest thing that the innermost group keeps.
+    #[tactic(auto, using(crate::proofs::MeaningLemmas::more_closed))]
+    pub(crate) fn undo_newest(&mut self) -> Closed<Meaning>
+        ensures answer { result ≡ (table.close_group self.old.symbols).0 }
+        ensures exact { self.new ≡ with_symbols self.old (table.close_group self.old.symbols).1 }
+        ensures counts { IsWithin (counts self.old) (counts self.new) }
+    {
+        self.symbols.close_group()
     }
-}
-
-/// Keeps the present value of an internal for the end of the group.
-#[tactic(auto, using(crate::proofs::TableLemmas::table_steps))]
-pub(crate) fn keep_internal(symbols: &mut Symbols<Meaning>, k: u32) -> Result<(), NoMemory>
-    ensures ok { OnOk result (symbols.new ≡ table.save_internal symbols.old k) }
-    ensures err { OnErr result (symbols.new ≡ symbols.old) }
-{
-    if symbols.has_internal(k) {
-        symbols.save_internal(k)?;
-    }
-    Ok(())
 }

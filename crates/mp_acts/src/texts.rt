@@ -4,7 +4,8 @@ ghost use Rattle.std.specs.Prelude.{◌≡◌, ◌≤◌, ◌^◌, ◌∷◌, �
 ghost use Rattle.mp_scaled.specs.Print.{printed};
 ghost use Rattle.mp_forms.specs.Terms.{IsCoefficient};
 ghost use Rattle.mp_values.specs.Outcome.{Gives};
-ghost use Rattle.mp_acts.specs.State.{unknown_count};
+ghost use Rattle.mp_acts.specs.Counts.{IsWithin, nothing};
+ghost use Rattle.mp_acts.specs.State.{unknown_count, counts};
 ghost use Rattle.mp_acts.specs.Reach.{reach, reach_of_form, reach_of_terms, reach_of_serial};
 ghost use Rattle.mp_acts.specs.Texts as texts;
 
@@ -22,7 +23,7 @@ impl State {
     /// What is shown of a value.
     #[tactic(auto, unfolding(crate::specs::Texts::value_text))]
     pub(crate) fn value_text(&self, value: &Value) -> Result<Bytes, Fault>
-        requires { reach value.now ≤ unknown_count self.now }
+        requires { IsWithin (reach value.now) (counts self.now) }
         ensures { Gives result self.now (texts.value_text value.now self.now) }
     {
         self.settled_text(self.settled(value))
@@ -30,7 +31,7 @@ impl State {
 
     /// What is shown of a value that is no filled slot.
     fn settled_text(&self, value: &Value) -> Result<Bytes, Fault>
-        requires { reach value.now ≤ unknown_count self.now }
+        requires { IsWithin (reach value.now) (counts self.now) }
         ensures { Gives result self.now (texts.settled_text value.now self.now) }
     {
         match value {

@@ -9,14 +9,15 @@ ghost use Rattle.mp_values.specs.declared.meaning.Meaning.TheVariants.{NewTag};
 ghost use Rattle.mp_values.specs.declared.value.Value.TheVariants.{Numeric};
 ghost use Rattle.mp_vartree.specs.Kinds.{kind_of, is_kind};
 ghost use Rattle.mp_vartree.specs.Variables.{variable_at, wanted_kind};
-ghost use Rattle.mp_acts.specs.State.{unknown_count, symbol_name, symbol_meaning, internal_value};
-ghost use Rattle.mp_acts.specs.Reach.{reach, reach_of_serial, reach_of_fresh};
+ghost use Rattle.mp_acts.specs.Counts.{IsWithin, greatest, nothing};
+ghost use Rattle.mp_acts.specs.State.{unknown_count, symbol_count, internal_count, symbol_name, symbol_meaning, internal_value, counts};
+ghost use Rattle.mp_acts.specs.Reach.{reach, reach_of_serial, reach_of_fresh, reach_of_part, reach_of_target, reach_of_meaning};
 ghost use Rattle.mp_acts.specs.Arithmetic.{known_number};
 ghost use Rattle.mp_acts.specs.Variables as variables;
 ghost use Rattle.mp_acts.specs.Variables.{IsReadInPart, IsForgetting, SameButRoots};
 
 use crate::event::Event;
-use crate::{State, Target, table};
+use crate::{State, Target};
 use mp_forms::Form;
 use mp_report::{Cap, SourceError};
 use mp_scaled::{Bytes, NoMemory};
@@ -27,36 +28,41 @@ use std::alloc::Global;
 use std::snapshot::Snapshot;
 
 impl State {
-    /// The name of a symbol; a symbol past the table has the empty one.
+    /// The name of a symbol.
     pub fn symbol_name(&self, symbol: u32) -> &[u8]
+        requires { symbol < symbol_count self.now }
         ensures { result.now ≡ symbol_name self.now symbol }
     {
-        table::name_of(&self.symbols, symbol)
+        self.symbols.name_of(symbol)
     }
 
-    /// The meaning of a symbol, which is lent; a symbol past the table is a new tag.
+    /// The meaning of a symbol, which is lent.
     pub fn symbol_meaning(&self, symbol: u32) -> &Meaning
-        ensures { result.now ≡ symbol_meaning self.now symbol }
+        requires { symbol < symbol_count self.now }
+        ensures exact { result.now ≡ symbol_meaning self.now symbol }
+        ensures within { IsWithin (reach_of_meaning result.now) (counts self.now) }
     {
-        table::meaning_of(&self.symbols, symbol, &self.past)
+        self.symbols.meaning(symbol)
     }
 
-    /// The value of an internal; past the internals it is 0.
+    /// The value of an internal.
     #[tactic(auto, unfolding(crate::specs::Reach::reach_of_terms))]
     pub fn internal(&self, k: u32) -> Value
+        requires { k < internal_count self.now }
         ensures exact { result ≡ known_number (internal_value self.now k) }
-        ensures within { reach result ≤ unknown_count self.now }
+        ensures within { IsWithin (reach result) (counts self.now) }
     {
-        let units = table::internal(&self.symbols, k);
+        let units = self.symbols.internal(k);
         Value::Numeric(Form::constant_of(self.alloc, units))
     }
 
     /// The root of a tag; what has none gets the next, and is a tag from then on.
     #[tactic(auto, unfolding(crate::specs::Variables::root_of))]
     pub fn root_of(&mut self, symbol: u32) -> Result<u32, Fault>
+        requires { symbol < symbol_count self.old }
         ensures exact { Gives result self.new (variables.root_of symbol self.old) }
         ensures whole { IsWhole result self.old self.new }
-        ensures counts { unknown_count self.new ≡ unknown_count self.old }
+        ensures counts { IsWithin (counts self.old) (counts self.new) }
     {
         match self.symbol_meaning(symbol) {
             Meaning::Tag(root) => Ok(*root),
@@ -66,12 +72,13 @@ impl State {
 
     /// Makes a symbol the tag of variables that were never used before.
     fn new_root(&mut self, symbol: u32) -> Result<u32, Fault>
+        requires { symbol < symbol_count self.old }
         ensures exact { Gives result self.new (variables.root_by symbol NewTag self.old) }
         ensures whole { IsWhole result self.old self.new }
-        ensures counts { unknown_count self.new ≡ unknown_count self.old }
+        ensures counts { IsWithin (counts self.old) (counts self.new) }
     {
         let root = self.next_root()?;
-        table::set_meaning(&mut self.symbols, symbol, Meaning::Tag(root));
+        self.set_meaning(symbol, Meaning::Tag(root));
         Ok(root)
     }
 
@@ -83,10 +90,12 @@ impl State {
     /// Want of memory may leave an unknown of that name, with its event, which no value speaks of.
     #[tactic(auto, unfolding(crate::specs::Variables::read))]
     pub fn do_read(&mut self, symbol: u32, root: u32, name: &[Part]) -> Result<Value, Fault>
+        requires symbol { symbol < symbol_count self.old }
+        requires name { IsWithin (greatest reach_of_part name.now) (counts self.old) }
         ensures exact { Gives result self.new (variables.read symbol root name.now self.old) }
         ensures part { result ≡ Err WantOfMemory → IsReadInPart symbol name.now self.old self.new }
-        ensures within { IfOk result (λ v. reach v ≤ unknown_count self.new) }
-        ensures counts { unknown_count self.old ≤ unknown_count self.new }
+        ensures within { IfOk result (λ v. IsWithin (reach v) (counts self.new)) }
+        ensures counts { IsWithin (counts self.old) (counts self.new) }
     {
         match self.value(root, name) {
             Some(value) => Ok(value.copy(self.alloc)?),
@@ -98,7 +107,7 @@ impl State {
     fn value(&self, root: u32, name: &[Part]) -> Option<&Value>
         ensures held { option_map (λ v. v.now) result
             ≡ option_map (λ x. x.value) (variable_at self.now.variables root name.now) }
-        ensures within { IfSome result (λ v. reach v.now ≤ unknown_count self.now) }
+        ensures within { IfSome result (λ v. IsWithin (reach v.now) (counts self.now)) }
     {
         match self.variables.variable_at(root, name) {
             Some(variable) => Some(&variable.value),
@@ -108,11 +117,13 @@ impl State {
 
     /// Gives a variable an unknown or a slot of its own.
     fn read_anew(&mut self, symbol: u32, root: u32, name: &[Part]) -> Result<Value, Fault>
+        requires symbol { symbol < symbol_count self.old }
+        requires name { IsWithin (greatest reach_of_part name.now) (counts self.old) }
         ensures exact { Gives result self.new
             (variables.value_of symbol root name.now None self.old) }
         ensures part { result ≡ Err WantOfMemory → IsReadInPart symbol name.now self.old self.new }
-        ensures within { IfOk result (λ v. reach v ≤ unknown_count self.new) }
-        ensures counts { unknown_count self.old ≤ unknown_count self.new }
+        ensures within { IfOk result (λ v. IsWithin (reach v) (counts self.new)) }
+        ensures counts { IsWithin (counts self.old) (counts self.new) }
     {
         match self.wanted_kind(root, name) {
             Kind::Numeric => self.new_unknown(symbol, root, name),
@@ -130,12 +141,14 @@ impl State {
 
     /// Makes a variable a new unknown of its name.
     fn new_unknown(&mut self, symbol: u32, root: u32, name: &[Part]) -> Result<Value, Fault>
-        requires { wanted_kind self.old.variables root name.now ≡ Kind.Numeric }
+        requires symbol { symbol < symbol_count self.old }
+        requires name { IsWithin (greatest reach_of_part name.now) (counts self.old) }
+        requires kind { wanted_kind self.old.variables root name.now ≡ Kind.Numeric }
         ensures exact { Gives result self.new
             (variables.made_value symbol root name.now Kind.Numeric self.old) }
         ensures part { result ≡ Err WantOfMemory → IsReadInPart symbol name.now self.old self.new }
-        ensures within { IfOk result (λ v. reach v ≤ unknown_count self.new) }
-        ensures counts { unknown_count self.old ≤ unknown_count self.new }
+        ensures within { IfOk result (λ v. IsWithin (reach v) (counts self.new)) }
+        ensures counts { IsWithin (counts self.old) (counts self.new) }
     {
         let text = self.variable_name(symbol, name)?;
         match self.fresh_unknown(&text)? {
@@ -160,7 +173,7 @@ impl State {
         ensures limit { result ≡ Ok Fresh.Limit → self.new ≡ self.old }
         ensures err { OnErr result (self.new ≡ self.old) }
         ensures within { IfOk result (λ answer. reach_of_fresh answer ≤ unknown_count self.new) }
-        ensures counts { unknown_count self.old ≤ unknown_count self.new }
+        ensures counts { IsWithin (counts self.old) (counts self.new) }
     {
         self.events.reserve(1)?;
         let answer = self.system.fresh(name.as_slice())?;
@@ -172,12 +185,13 @@ impl State {
     }
 
     /// Gives a variable a new slot, which is open. There is room for the slot before the variable speaks of it.
+    #[tactic(auto, using(crate::proofs::WithinLemmas::with_slot))]
     fn new_slot(&mut self, root: u32, name: &[Part], kind: Kind) -> Result<Value, Fault>
         requires { wanted_kind self.old.variables root name.now ≡ kind }
         ensures exact { Gives result self.new (variables.made_slot self.old root name.now kind) }
         ensures whole { IsWhole result self.old self.new }
-        ensures within { IfOk result (λ v. reach v ≤ unknown_count self.new) }
-        ensures counts { unknown_count self.old ≤ unknown_count self.new }
+        ensures within { IfOk result (λ v. IsWithin (reach v) (counts self.new)) }
+        ensures counts { IsWithin (counts self.old) (counts self.new) }
     {
         variables_are_a_map();
         let slot = room_for_slot(&mut self.slots)?;
@@ -195,13 +209,13 @@ impl State {
 
     /// Gives a variable a value that was made for it.
     fn keep_made(&mut self, root: u32, name: &[Part], value: Value) -> Result<Value, Fault>
-        requires within { reach value ≤ unknown_count self.old }
+        requires within { IsWithin (reach value) (counts self.old) }
         requires fits { is_kind (wanted_kind self.old.variables root name.now) (kind_of value)
             ≡ true }
         ensures exact { Gives result self.new (variables.read_anew self.old root name.now value) }
         ensures whole { IsWhole result self.old self.new }
-        ensures within { IfOk result (λ v. reach v ≤ unknown_count self.new) }
-        ensures counts { unknown_count self.old ≤ unknown_count self.new }
+        ensures within { IfOk result (λ v. IsWithin (reach v) (counts self.new)) }
+        ensures counts { IsWithin (counts self.old) (counts self.new) }
     {
         variables_are_a_map();
         let copy = value.copy(self.alloc)?;
@@ -217,9 +231,10 @@ impl State {
     /// no names any more. A refusal and want of memory may leave a root used up, and nothing else.
     #[tactic(auto, unfolding(crate::specs::Variables::declare))]
     pub fn do_declare(&mut self, symbol: u32, name: &[Shape], kind: Kind) -> Result<(), Fault>
+        requires { symbol < symbol_count self.old }
         ensures exact { Gives result self.new (variables.declare symbol name.now kind self.old) }
         ensures part { result ≡ Err WantOfMemory → SameButRoots self.old self.new }
-        ensures counts { unknown_count self.old ≤ unknown_count self.new }
+        ensures counts { IsWithin (counts self.old) (counts self.new) }
     {
         let root = self.root_for(symbol)?;
         self.declare_root(symbol, root, name, kind)
@@ -227,10 +242,11 @@ impl State {
 
     /// The root that a symbol has, or the next, which is used up.
     fn root_for(&mut self, symbol: u32) -> Result<u32, Fault>
+        requires { symbol < symbol_count self.old }
         ensures exact { Gives result self.new
             (variables.root_for (symbol_meaning self.old symbol) self.old) }
         ensures roots { SameButRoots self.old self.new }
-        ensures counts { unknown_count self.new ≡ unknown_count self.old }
+        ensures counts { IsWithin (counts self.old) (counts self.new) }
     {
         match self.symbol_meaning(symbol) {
             Meaning::Tag(root) => Ok(*root),
@@ -244,7 +260,7 @@ impl State {
             ≡ variables.root_for NewTag self.old) }
         ensures roots { SameButRoots self.old self.new }
         ensures err { OnErr result (self.new ≡ self.old) }
-        ensures counts { unknown_count self.new ≡ unknown_count self.old }
+        ensures counts { IsWithin (counts self.old) (counts self.new) }
     {
         let root = self.variables.new_root()?;
         Ok(root)
@@ -257,17 +273,18 @@ impl State {
         name: &[Shape],
         kind: Kind,
     ) -> Result<(), Fault>
+        requires { symbol < symbol_count self.old }
         ensures exact { Gives result self.new
             (variables.declare_root symbol name.now kind root self.old) }
         ensures whole { IsWhole result self.old self.new }
-        ensures counts { unknown_count self.old ≤ unknown_count self.new }
+        ensures counts { IsWithin (counts self.old) (counts self.new) }
     {
         variables_are_a_map();
         let serials = self.variables.made(self.alloc, root, name, false)?;
         match self.variables.declare(root, name, kind)? {
             Ok(()) => {
                 self.give_up(serials.as_slice());
-                table::set_meaning(&mut self.symbols, symbol, Meaning::Tag(root));
+                self.set_meaning(symbol, Meaning::Tag(root));
                 Ok(())
             }
             Err(_) => Err(Fault::Refused(SourceError::BadDeclaration)),
@@ -278,7 +295,7 @@ impl State {
     fn give_up(&mut self, serials: &[u32])
         ensures exact { self.new ≡ variables.nameless self.old serials.now }
         ensures rest { self.new ≡ record self.old { unknowns = record self.old.unknowns { names = self.new.unknowns.names } } }
-        ensures counts { unknown_count self.new ≡ unknown_count self.old }
+        ensures counts { IsWithin (counts self.old) (counts self.new) }
     {
         unname_all(&mut self.system, serials);
     }
@@ -289,7 +306,7 @@ impl State {
         ensures exact { OnOk result (self.new ≡ variables.without_root root self.old) }
         ensures rest { IsForgetting self.old self.new }
         ensures err { OnErr result (self.new ≡ self.old) }
-        ensures counts { unknown_count self.new ≡ unknown_count self.old }
+        ensures counts { IsWithin (counts self.old) (counts self.new) }
     {
         variables_are_a_map();
         let serials = self.variables.made(self.alloc, root, &[], true)?;
@@ -300,13 +317,14 @@ impl State {
 
     /// Assigns a value to a variable, of whose type it must be, or a known number to an internal: `WrongType`, `NotKnown`.
     ///
-    /// The unknowns that were made for the variable have no names any more. Past the internals nothing is assigned.
+    /// The unknowns that were made for the variable have no names any more.
     #[tactic(auto, unfolding(crate::specs::Variables::assign))]
     pub fn do_assign(&mut self, to: &Target, value: &Value) -> Result<(), Fault>
-        requires { reach value.now ≤ unknown_count self.old }
+        requires target { IsWithin (reach_of_target to.now) (counts self.old) }
+        requires value { IsWithin (reach value.now) (counts self.old) }
         ensures exact { Gives result self.new (variables.assign to.now value.now self.old) }
         ensures whole { IsWhole result self.old self.new }
-        ensures counts { unknown_count self.old ≤ unknown_count self.new }
+        ensures counts { IsWithin (counts self.old) (counts self.new) }
     {
         match to {
             Target::Variable(root, name) => self.assign_variable(*root, name.as_slice(), value),
@@ -315,23 +333,24 @@ impl State {
     }
 
     fn assign_internal(&mut self, k: u32, value: &Value) -> Result<(), Fault>
-        requires { reach value.now ≤ unknown_count self.old }
+        requires internal { k < internal_count self.old }
+        requires value { IsWithin (reach value.now) (counts self.old) }
         ensures exact { Gives result self.new (variables.assign_internal k value.now self.old) }
         ensures whole { IsWhole result self.old self.new }
-        ensures counts { unknown_count self.old ≤ unknown_count self.new }
+        ensures counts { IsWithin (counts self.old) (counts self.new) }
     {
         let form = self.operand(b":=", value)?;
         let value = self.known(b":=", &form)?;
-        table::set_internal(&mut self.symbols, k, value);
+        self.set_internal(k, value);
         Ok(())
     }
 
     fn assign_variable(&mut self, root: u32, name: &[Part], value: &Value) -> Result<(), Fault>
-        requires { reach value.now ≤ unknown_count self.old }
+        requires { IsWithin (reach value.now) (counts self.old) }
         ensures exact { Gives result self.new
             (variables.assign_variable root name.now value.now self.old) }
         ensures whole { IsWhole result self.old self.new }
-        ensures counts { unknown_count self.old ≤ unknown_count self.new }
+        ensures counts { IsWithin (counts self.old) (counts self.new) }
     {
         if !has_kind(value, self.wanted_kind(root, name)) {
             return Err(Fault::wrong_type(self.alloc, b":="));
@@ -342,9 +361,9 @@ impl State {
 
     /// The value once more, a number brought up to date.
     fn current(&self, value: &Value) -> Result<Value, Fault>
-        requires { reach value.now ≤ unknown_count self.now }
+        requires { IsWithin (reach value.now) (counts self.now) }
         ensures exact { Gives result self.now (variables.current value.now self.now) }
-        ensures within { IfOk result (λ v. reach v ≤ unknown_count self.now) }
+        ensures within { IfOk result (λ v. IsWithin (reach v) (counts self.now)) }
         ensures kind { IfOk result (λ v. kind_of v ≡ kind_of value.now) }
     {
         match value {
@@ -357,13 +376,13 @@ impl State {
 
     /// Gives a variable another value. The unknowns that were made for it have no names any more.
     fn replace(&mut self, root: u32, name: &[Part], value: Value) -> Result<(), Fault>
-        requires within { reach value ≤ unknown_count self.old }
+        requires within { IsWithin (reach value) (counts self.old) }
         requires fits { is_kind (wanted_kind self.old.variables root name.now) (kind_of value)
             ≡ true }
         ensures exact { Gives result self.new
             (change (λ s. variables.replaced s root name.now value) self.old) }
         ensures whole { IsWhole result self.old self.new }
-        ensures counts { unknown_count self.old ≤ unknown_count self.new }
+        ensures counts { IsWithin (counts self.old) (counts self.new) }
     {
         variables_are_a_map();
         let serials = self.variables.made_at(self.alloc, root, name)?;
@@ -381,7 +400,7 @@ impl State {
 #[tactic(auto, unfolding(crate::specs::Reach::reach_of_terms))]
 fn unknown_value(alloc: Global, serial: u32) -> Result<Value, NoMemory>
     ensures exact { IfOk result (λ v. v ≡ Numeric (variables.unknown_form serial)) }
-    ensures reaches { IfOk result (λ v. reach v ≡ reach_of_serial serial) }
+    ensures reaches { IfOk result (λ v. reach v ≡ record nothing { unknowns = reach_of_serial serial }) }
 {
     Ok(Value::Numeric(Form::unknown(alloc, serial)?))
 }

@@ -1,41 +1,55 @@
--- The items of a file speak of no unknowns.
-use Rattle.std.proofs.Common.{◌≡◌, ℕ, ◌≤◌, max, List, [], ◌∷◌, ◌++◌, map, arith, refl}
+-- The items of a file speak of no symbols but those of the table that its names were put into.
+use Rattle.std.proofs.Common.{◌≡◌, ℕ, ◌≤◌, max, List, [], ◌∷◌, ◌++◌, length, map, arith, refl}
+use Rattle.std.specs.Prelude.{All}
+use Rattle.std.proofs.lemmas.List.Elements.{All-head, All-tail}
+use Rattle.mp_symbols.specs.Names.{Names}
 use Rattle.mp_tokens.specs.declared.token.Token.{Token}
 use Rattle.mp_tokens.specs.declared.token.Token.TheVariants as token
-use Rattle.mp_tokens.specs.Items as tokens
+use Rattle.mp_tokens.specs.Items.{IsNumbered}
 use Rattle.mp_values.specs.Items.{item_of, file_items}
+use Rattle.mp_values.specs.declared.meaning.Meaning.{Meaning}
 use Rattle.mp_values.specs.declared.turn.Pending.{Pending}
-use Rattle.mp_acts.specs.State.{State}
 use Rattle.mp_input.specs.Lines.{items_pending}
-use Rattle.mp_rules.specs.Reach.{greatest, reach_of_item, reach_of_text}
-use Rattle.mp_eval.specs.Readings.{IsPut, IsPreluded}
+use Rattle.mp_acts.specs.Counts.{Counts, nothing, most, greatest, IsWithin}
+use Rattle.mp_acts.specs.Reach.{reach_of_item}
+use Rattle.mp_rules.specs.Reach.{reach_of_pending, reach_of_text}
 
-token_within : (file : ℕ) (t : Token) → reach_of_item (item_of file t) ≡ 0
-token_within file (token.Sym symbol) = refl
-token_within file (token.Num value) = refl
-token_within file (token.Text bytes) = refl
-token_within file (token.Bad cause) = refl
-token_within file (token.LineEnd line) = refl
+none_in : (n : Counts) → IsWithin nothing n
+none_in n = record { unknowns = omega arith; slots = omega arith; symbols = omega arith; internals = omega arith }
 
-file_within : (file : ℕ) (ts : List Token) (text : List Pending) → reach_of_text (items_pending (file_items file ts) ++ text) ≡ reach_of_text text
+pub within_more : (a b c : Counts) → IsWithin a b → IsWithin b c → IsWithin a c
+within_more a b c h k = record {
+  unknowns = omega (arith, h.unknowns, k.unknowns);
+  slots = omega (arith, h.slots, k.slots);
+  symbols = omega (arith, h.symbols, k.symbols);
+  internals = omega (arith, h.internals, k.internals);
+}
+
+both_within : (a b n : Counts) → IsWithin a n → IsWithin b n → IsWithin (most a b) n
+both_within a b n h k = record {
+  unknowns = omega (arith, h.unknowns, k.unknowns);
+  slots = omega (arith, h.slots, k.slots);
+  symbols = omega (arith, h.symbols, k.symbols);
+  internals = omega (arith, h.internals, k.internals);
+}
+
+module _ (n : Counts) (names : Names Meaning) (all : length names ≤ n.symbols) where
+  token_within : (file : ℕ) (t : Token) → IsNumbered names t → IsWithin (reach_of_item (item_of file t)) n
+  token_within file (token.Sym symbol) h = record { unknowns = omega arith; slots = omega arith; symbols = omega (arith, h, all); internals = omega arith }
+  token_within file (token.Num value) h = none_in n
+  token_within file (token.Text bytes) h = none_in n
+  token_within file (token.Bad cause) h = none_in n
+  token_within file (token.LineEnd line) h = none_in n
+
+  pub file_within : (file : ℕ) (ts : List Token) (text : List Pending) → All (IsNumbered names) ts → IsWithin (reach_of_text text) n
+      → IsWithin (reach_of_text (items_pending (file_items file ts) ++ text)) n
+  unfolding greatest
+  file_within file [] text numbered h = both_within nothing (reach_of_text text) n (none_in n) h
+  file_within file (t ∷ ts) text numbered h =
+      both_within (reach_of_item (item_of file t)) (reach_of_text (items_pending (file_items file ts) ++ text)) n
+      (token_within file t (All-head (IsNumbered names) t ts numbered)) (file_within file ts text (All-tail (IsNumbered names) t ts numbered) h)
+
+-- nothing is left before a file is put in front
+pub nothing_left : (n : Counts) (text : List Pending) → text ≡ [] → IsWithin (reach_of_text text) n
 unfolding greatest
-file_within file [] text = omega arith
-file_within file (t ∷ ts) text = omega (arith, token_within file t, file_within file ts text)
-
-pub put_within : (number : ℕ) (bytes : List ℕ) (acts : State) (text : List Pending) (acts_now : State) (text_now : List Pending)
-    → IsPut number bytes acts text acts_now text_now → reach_of_text text_now ≡ reach_of_text text
-put_within number bytes acts text acts_now text_now put =
-    rw (put.1) (file_within number (tokens.tokens_in acts_now.symbols.names (tokens.file_items bytes)) text)
-
-pub preluded_within : (bytes : List ℕ) (acts : State) (text : List Pending) (acts_now : State) (text_now : List Pending)
-    → IsPreluded bytes acts text acts_now text_now → reach_of_text text_now ≡ reach_of_text text
-preluded_within [] acts text acts_now text_now put = rw (put.1) refl
-preluded_within (byte ∷ bytes) acts text acts_now text_now put = put_within 0 (byte ∷ bytes) acts text acts_now text_now put
-
--- a main file behind a prelude
-pub begun_within : (n : ℕ) (prelude bytes : List ℕ) (acts : State) (text : List Pending) (acts_put : State) (text_put : List Pending) (acts_now : State) (text_now : List Pending)
-    → text ≡ [] → IsPut 1 bytes acts text acts_put text_put → IsPreluded prelude acts_put text_put acts_now text_now → reach_of_text text_now ≤ n
-unfolding greatest
-begun_within n prelude bytes acts text acts_put text_put acts_now text_now empty put preluded =
-    let first = rw empty at (put_within 1 bytes acts text acts_put text_put put) in
-    omega (arith, first, preluded_within prelude acts_put text_put acts_now text_now preluded)
+nothing_left n text empty = rw empty (none_in n)

@@ -1,7 +1,10 @@
 //! A whole run: the main file is asked for, cut into items, and read to its end.
 
 ghost use Rattle.std.specs.Prelude.{◌≡◌, ◌≤◌, ◌+◌, ◌++◌, ◌⊎◌, [], codes, IfOk, OnOk};
+ghost use Rattle.mp_acts.specs.Counts.{IsWithin};
+ghost use Rattle.mp_acts.specs.State.{counts};
 ghost use Rattle.mp_rules.specs.Meaning.{the};
+ghost use Rattle.mp_rules.specs.Reach.{reach_of_text};
 ghost use Rattle.mp_rules.specs.Starts.{whole};
 ghost use Rattle.mp_eval.specs.Gives.{RunGives, starved_run};
 ghost use Rattle.mp_eval.specs.Readings.{RanAs, IsPut, IsPreluded, asked_on, begun_on, only, unbegun_run, no_such_file as absent_end};
@@ -31,8 +34,10 @@ fn put_file(
     number: u32,
     bytes: &[u8],
 ) -> Result<(), NoMemory>
-    requires { 1 ≤ input.old.spare }
+    requires spare { 1 ≤ input.old.spare }
+    requires within { IsWithin (reach_of_text input.old.text) (counts acts.old) }
     ensures put { OnOk result (IsPut number bytes.now acts.old input.old.text acts.new input.new.text) }
+    ensures within { OnOk result (IsWithin (reach_of_text input.new.text) (counts acts.new)) }
     ensures last { input.new.last ≡ input.old.last }
     ensures spare { OnOk result (input.old.spare ≤ input.new.spare + 1) }
 {
@@ -48,8 +53,10 @@ fn put_prelude(
     input: &mut Input,
     bytes: &[u8],
 ) -> Result<(), NoMemory>
-    requires { 1 ≤ input.old.spare }
+    requires spare { 1 ≤ input.old.spare }
+    requires within { IsWithin (reach_of_text input.old.text) (counts acts.old) }
     ensures put { OnOk result (IsPreluded bytes.now acts.old input.old.text acts.new input.new.text) }
+    ensures within { OnOk result (IsWithin (reach_of_text input.new.text) (counts acts.new)) }
     ensures last { input.new.last ≡ input.old.last }
 {
     match bytes {

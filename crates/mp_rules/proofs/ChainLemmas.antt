@@ -1,10 +1,10 @@
 -- On the sides of a chain: the last one gets the value first.
 use Rattle.std.proofs.Common.{◌≡◌, ◌≤◌, List, [], ◌∷◌, ◌++◌, reverse, refl, ap, arith, Ok, Err}
-use Rattle.std.specs.Prelude.{max}
 use Rattle.std.proofs.lemmas.List.{reverse-append}
 use Rattle.mp_values.specs.Outcome.{then}
 use Rattle.mp_values.specs.Outcome as act
 use Rattle.mp_values.specs.declared.value.Value.{Value}
+use Rattle.mp_acts.specs.Counts.{nothing, most, greatest}
 use Rattle.mp_acts.specs.State.{State}
 use Rattle.mp_rules.specs.Machine.{Machine}
 use Rattle.mp_rules.specs.Promises.{used_by_side}
@@ -16,8 +16,8 @@ use Rattle.mp_rules.specs.declared.chain_side.ChainSide.{ChainSide as Side}
 reverse_last : (xs : List Side) (x : Side) → reverse (xs ++ x ∷ []) ≡ x ∷ reverse xs
 reverse_last xs x = reverse-append xs (x ∷ [])
 
-pub reach_last : (xs : List Side) (x : Side) → reach_of_sides (reverse (xs ++ x ∷ [])) ≡ max (reach_of_side x) (reach_of_sides (reverse xs))
-unfolding reach_of_sides
+pub reach_last : (xs : List Side) (x : Side) → reach_of_sides (reverse (xs ++ x ∷ [])) ≡ most (reach_of_side x) (reach_of_sides (reverse xs))
+unfolding greatest
 reach_last xs x = ap reach_of_sides (reverse_last xs x)
 
 again : {A : Type 0} (s : Machine) (a : State) (o : act.Outcome State A) → in_machine s o ≡ in_machine (record s { acts = a }) o
@@ -44,8 +44,8 @@ settle_none v s = refl
 pub reverse_push : (xs : List Side) (x : Side) → reverse (xs ++ x ∷ []) ≡ x ∷ reverse xs
 reverse_push xs x = reverse_last xs x
 
-pub reach_none : reach_of_sides (reverse []) ≡ 0
-unfolding reach_of_sides
+pub reach_none : reach_of_sides (reverse []) ≡ nothing
+unfolding greatest
 reach_none = refl
 
 -- at most one front is used for certain

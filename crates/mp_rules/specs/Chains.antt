@@ -1,9 +1,10 @@
 -- The sides of a chain of equations and assignments.
-use Rattle.std.specs.Prelude.{ℕ, max, List, [], ◌∷◌}
+use Rattle.std.specs.Prelude.{List, [], ◌∷◌}
 use Rattle.mp_values.specs.Outcome.{Rule, ◌>>=◌, give}
 use Rattle.mp_values.specs.declared.value.Value.{Value}
+use Rattle.mp_acts.specs.Counts.{Counts, greatest}
 use Rattle.mp_acts.specs.State.{State}
-use Rattle.mp_acts.specs.Reach.{reach}
+use Rattle.mp_acts.specs.Reach.{reach, reach_of_target}
 use Rattle.mp_acts.specs.Equations.{equation}
 use Rattle.mp_acts.specs.Variables.{assign}
 use Rattle.mp_rules.specs.declared.chain_side.ChainSide.{ChainSide}
@@ -21,10 +22,9 @@ settle (last ∷ sides) v = do
   done ← gets last v
   settle sides v
 
-abbrev pub reach_of_side : ChainSide → ℕ
+abbrev pub reach_of_side : ChainSide → Counts
 reach_of_side (side.Value v) = reach v
-reach_of_side (side.Target target) = 0
+reach_of_side (side.Target target) = reach_of_target target
 
-unfoldable pub reach_of_sides : List ChainSide → ℕ
-reach_of_sides [] = 0
-reach_of_sides (x ∷ xs) = max (reach_of_side x) (reach_of_sides xs)
+abbrev pub reach_of_sides : List ChainSide → Counts
+reach_of_sides sides = greatest reach_of_side sides

@@ -4,7 +4,8 @@ use Rattle.mp_files.specs.declared.outside.Kept.{Kept}
 use Rattle.mp_report.specs.declared.place.Place.{Place}
 use Rattle.mp_values.specs.Outcome.{OutcomeBy, RuleBy, Cause}
 use Rattle.mp_values.specs.declared.turn.Pending.{Pending}
-use Rattle.mp_acts.specs.State.{State, unknown_count}
+use Rattle.mp_acts.specs.Counts.{Counts}
+use Rattle.mp_acts.specs.State.{State, counts}
 use Rattle.mp_rules.specs.declared.front.Front.{Front}
 use Rattle.mp_rules.specs.declared.front.Front.TheVariants as front
 
@@ -54,6 +55,6 @@ coming s = (s.budget - s.steps) + held_weight s.held
 abbrev pub left : Machine → ℕ
 left s = coming s + weight s.front
 
--- the number of unknowns that were made
-abbrev pub unknowns : Machine → ℕ
-unknowns s = unknown_count s.acts
+-- how many unknowns, slots, symbols and internals there are
+abbrev pub things : Machine → Counts
+things s = counts s.acts

@@ -1,39 +1,67 @@
--- How many unknowns there must be so that a text speaks of none but them: a capsule carries a value.
-use Rattle.std.specs.Prelude.{ℕ, List, [], ◌∷◌, max}
-use Rattle.mp_values.specs.declared.item.Item as items
-use Rattle.mp_values.specs.declared.item.Item.TheVariants as item
+-- What the text that is left, and the fronts in hand, speak of by number.
+use Rattle.std.specs.Prelude.{List, Option, Some, None}
 use Rattle.mp_values.specs.declared.turn.LeftOver.{LeftOver}
 use Rattle.mp_values.specs.declared.turn.LeftOver.TheVariants.{Forever, Values, Suffixes, Steps}
 use Rattle.mp_values.specs.declared.turn.Pending.{Pending}
 use Rattle.mp_values.specs.declared.turn.Pending.TheVariants.{Item, Turn}
-use Rattle.mp_acts.specs.Reach.{reach}
-
-abbrev pub reach_of_item : items.Item → ℕ
-reach_of_item (item.Symbol symbol) = 0
-reach_of_item (item.Number n) = 0
-reach_of_item (item.Text bytes) = 0
-reach_of_item (item.Bad cause) = 0
-reach_of_item (item.Capsule v) = reach v
-reach_of_item (item.Param number) = 0
-reach_of_item (item.LineEnd place) = 0
-reach_of_item item.FileEnd = 0
-reach_of_item item.EndOfText = 0
-
--- the greatest of these numbers
-unfoldable pub greatest : {A : Type 0} → (A → ℕ) → List A → ℕ
-greatest f [] = 0
-greatest f (x ∷ xs) = max (f x) (greatest f xs)
+use Rattle.mp_acts.specs.Counts.{Counts, nothing, most, greatest, IsWithin}
+use Rattle.mp_acts.specs.Reach.{reach, reach_of_item, reach_of_pair, one_symbol, one_internal}
+use Rattle.mp_rules.specs.declared.front.Front.{Front}
+use Rattle.mp_rules.specs.declared.front.Front.TheVariants as front
+use Rattle.mp_rules.specs.declared.front.Raw.{Raw}
+use Rattle.mp_rules.specs.declared.front.Raw.TheVariants as raw
+use Rattle.mp_rules.specs.declared.front.Taken.{Taken}
+use Rattle.mp_rules.specs.declared.front.Taken.TheVariants as taken
 
 -- what a loop still goes over
-abbrev pub reach_of_left_over : LeftOver → ℕ
-reach_of_left_over Forever = 0
+abbrev pub reach_of_left_over : LeftOver → Counts
+reach_of_left_over Forever = nothing
 reach_of_left_over (Values values) = greatest reach values
 reach_of_left_over (Suffixes suffixes) = greatest (greatest reach_of_item) suffixes
-reach_of_left_over (Steps next by until) = 0
+reach_of_left_over (Steps next by until) = nothing
 
-abbrev pub reach_of_pending : Pending → ℕ
+abbrev pub reach_of_pending : Pending → Counts
 reach_of_pending (Item x) = reach_of_item x
-reach_of_pending (Turn turn) = max (reach_of_left_over turn.left_over) (greatest reach_of_item turn.body)
+reach_of_pending (Turn turn) = most (reach_of_left_over turn.left_over) (greatest reach_of_item turn.body)
 
-abbrev pub reach_of_text : List Pending → ℕ
+abbrev pub reach_of_text : List Pending → Counts
 reach_of_text text = greatest reach_of_pending text
+
+-- what was first in a text, if there was anything
+abbrev pub reach_of_first : Option Pending → Counts
+reach_of_first None = nothing
+reach_of_first (Some x) = reach_of_pending x
+
+abbrev pub reach_of_taken : Taken → Counts
+reach_of_taken (taken.Symbol symbol) = one_symbol symbol
+reach_of_taken (taken.Number n) = nothing
+reach_of_taken (taken.Text bytes) = nothing
+reach_of_taken (taken.Bad cause) = nothing
+reach_of_taken taken.Passed = nothing
+reach_of_taken taken.Nothing = nothing
+
+abbrev pub reach_of_raw : Raw → Counts
+reach_of_raw (raw.Symbol symbol) = one_symbol symbol
+reach_of_raw raw.Number = nothing
+reach_of_raw raw.Text = nothing
+reach_of_raw raw.EndOfText = nothing
+
+abbrev pub reach_of_front : Front → Counts
+reach_of_front (front.Number n) = nothing
+reach_of_front front.Text = nothing
+reach_of_front (front.Word symbol w) = one_symbol symbol
+reach_of_front (front.Tag symbol) = one_symbol symbol
+reach_of_front (front.Internal symbol k) = most (one_symbol symbol) (one_internal k)
+reach_of_front (front.Left symbol pair) = most (one_symbol symbol) (reach_of_pair pair)
+reach_of_front (front.Right symbol pair) = most (one_symbol symbol) (reach_of_pair pair)
+reach_of_front front.EndOfText = nothing
+
+abbrev pub reach_of_held : Option Front → Counts
+reach_of_held None = nothing
+reach_of_held (Some x) = reach_of_front x
+
+-- what is to be read speaks of what there is
+pub record IsReadable (text : List Pending) (front : Front) (held : Option Front) (there : Counts) : Type 0 where
+  pub within_text : IsWithin (reach_of_text text) there
+  pub within_front : IsWithin (reach_of_front front) there
+  pub within_held : IsWithin (reach_of_held held) there

@@ -1,14 +1,16 @@
 //! The acts of statements and expressions, within a run: each takes its values, which it gives up.
 
-ghost use Rattle.std.specs.Prelude.{◌≡◌, ◌≤◌, Ok};
+ghost use Rattle.std.specs.Prelude.{◌≡◌, ◌<◌, Ok};
 ghost use Rattle.mp_values.specs.Outcome.{change, lift};
+ghost use Rattle.mp_acts.specs.Counts.{IsWithin, greatest, nothing};
 ghost use Rattle.mp_acts.specs.Arithmetic as arithmetic;
 ghost use Rattle.mp_acts.specs.Groups as groups;
 ghost use Rattle.mp_acts.specs.Lines as lines;
-ghost use Rattle.mp_acts.specs.Reach.{reach};
+ghost use Rattle.mp_acts.specs.Reach.{reach, reach_of_part};
+ghost use Rattle.mp_acts.specs.State.{symbol_count, internal_count};
 ghost use Rattle.mp_acts.specs.Suffixes as suffixes;
 ghost use Rattle.mp_acts.specs.Variables as variables;
-ghost use Rattle.mp_rules.specs.Machine.{unknowns};
+ghost use Rattle.mp_rules.specs.Machine.{things};
 ghost use Rattle.mp_rules.specs.Promises.{Acts, ActsValue};
 ghost use Rattle.mp_rules.specs.Chains.{gets, reach_of_side};
 ghost use Rattle.mp_rules.specs.Steps.{acting, internal_number};
@@ -23,7 +25,7 @@ impl Evaluator {
     /// What an operator makes of the primary behind it.
     #[tactic(auto, using(crate::proofs::Stops::fault_stops))]
     pub(crate) fn unary_of(&self, operator: Unary, right: Value) -> Result<Value, Stop>
-        requires { reach right ≤ unknowns self.now }
+        requires { IsWithin (reach right) (things self.now) }
         ensures { ActsValue (acting (arithmetic.unary operator right)) result self.now self.now }
     {
         Ok(self.acts.unary(operator, &right)?)
@@ -37,8 +39,8 @@ impl Evaluator {
         left: Value,
         right: Value,
     ) -> Result<Value, Stop>
-        requires left { reach left ≤ unknowns self.now }
-        requires right { reach right ≤ unknowns self.now }
+        requires left { IsWithin (reach left) (things self.now) }
+        requires right { IsWithin (reach right) (things self.now) }
         ensures { ActsValue (acting (arithmetic.secondary operator left right)) result self.now self.now }
     {
         Ok(self.acts.secondary(operator, &left, &right)?)
@@ -52,8 +54,8 @@ impl Evaluator {
         left: Value,
         right: Value,
     ) -> Result<Value, Stop>
-        requires left { reach left ≤ unknowns self.now }
-        requires right { reach right ≤ unknowns self.now }
+        requires left { IsWithin (reach left) (things self.now) }
+        requires right { IsWithin (reach right) (things self.now) }
         ensures { ActsValue (acting (arithmetic.tertiary operator left right)) result self.now self.now }
     {
         Ok(self.acts.tertiary(operator, left, &right)?)
@@ -62,7 +64,7 @@ impl Evaluator {
     /// A number token.
     pub(crate) fn known_number(&self, value: Scaled) -> Value
         ensures exact { result ≡ arithmetic.known_number value }
-        ensures within { reach result ≡ 0 }
+        ensures within { reach result ≡ nothing }
     {
         self.acts.number(value)
     }
@@ -78,6 +80,7 @@ impl Evaluator {
     /// The root of a tag; one that has none gets the next.
     #[tactic(auto, using(crate::proofs::Stops::fault_stops))]
     pub(crate) fn root_of(&mut self, symbol: u32) -> Result<u32, Stop>
+        requires { symbol < symbol_count self.old.acts }
         ensures acts { Acts (acting (variables.root_of symbol)) result self.old self.new }
         ensures hand { self.new.front ≡ self.old.front }
     {
@@ -87,6 +90,8 @@ impl Evaluator {
     /// The value of the variable of a root, whose tag that symbol is, with these parts behind it.
     #[tactic(auto, using(crate::proofs::Stops::fault_stops))]
     pub(crate) fn read(&mut self, symbol: u32, root: u32, name: Suffix) -> Result<Value, Stop>
+        requires symbol { symbol < symbol_count self.old.acts }
+        requires name { IsWithin (greatest reach_of_part name) (things self.old) }
         ensures { ActsValue (acting (variables.read symbol root name)) result self.old self.new }
     {
         Ok(self.acts.do_read(symbol, root, name.as_slice())?)
@@ -95,6 +100,7 @@ impl Evaluator {
     /// Declares the variables of a pattern.
     #[tactic(auto, using(crate::proofs::Stops::fault_stops))]
     pub(crate) fn declare(&mut self, symbol: u32, name: Pattern, kind: Kind) -> Result<(), Stop>
+        requires { symbol < symbol_count self.old.acts }
         ensures { Acts (acting (variables.declare symbol name kind)) result self.old self.new }
     {
         Ok(self.acts.do_declare(symbol, name.as_slice(), kind)?)
@@ -103,6 +109,7 @@ impl Evaluator {
     /// The text of a suffix, as a string.
     #[tactic(auto, using(crate::proofs::Stops::fault_stops))]
     pub(crate) fn suffix_string(&self, suffix: Suffix) -> Result<Value, Stop>
+        requires { IsWithin (greatest reach_of_part suffix) (things self.now) }
         ensures { ActsValue (acting (suffixes.suffix_string suffix)) result self.now self.now }
     {
         Ok(self.acts.suffix_string(suffix.as_slice())?)
@@ -111,7 +118,7 @@ impl Evaluator {
     /// The units of a subscript, which must be a known number.
     #[tactic(auto, using(crate::proofs::Stops::fault_stops))]
     pub(crate) fn subscript(&self, value: Value) -> Result<i32, Stop>
-        requires { reach value ≤ unknowns self.now }
+        requires { IsWithin (reach value) (things self.now) }
         ensures { Acts (acting (suffixes.subscript value)) result self.now self.now }
     {
         Ok(self.acts.subscript(&value)?)
@@ -119,8 +126,9 @@ impl Evaluator {
 
     /// The value of an internal.
     pub(crate) fn internal_value(&self, k: u32) -> Value
+        requires { k < internal_count self.now.acts }
         ensures exact { internal_number k self.now ≡ Ok (result, self.now) }
-        ensures within { reach result ≤ unknowns self.now }
+        ensures within { IsWithin (reach result) (things self.now) }
     {
         self.acts.internal(k)
     }
@@ -136,7 +144,7 @@ impl Evaluator {
     /// Shows a value.
     #[tactic(auto, using(crate::proofs::Stops::fault_stops))]
     pub(crate) fn show(&mut self, value: Value) -> Result<(), Stop>
-        requires { reach value ≤ unknowns self.old }
+        requires { IsWithin (reach value) (things self.old) }
         ensures { Acts (acting (lines.show value)) result self.old self.new }
     {
         Ok(self.acts.do_show(&value)?)
@@ -145,7 +153,7 @@ impl Evaluator {
     /// Says a string, as a message, as the error that ends the run, or as help.
     #[tactic(auto, using(crate::proofs::Stops::fault_stops))]
     pub(crate) fn speak(&mut self, speech: Speech, value: Value) -> Result<(), Stop>
-        requires { reach value ≤ unknowns self.old }
+        requires { IsWithin (reach value) (things self.old) }
         ensures { Acts (acting (lines.speak speech value)) result self.old self.new }
     {
         Ok(self.acts.do_speak(speech, &value)?)
@@ -154,8 +162,8 @@ impl Evaluator {
     /// Gives a side of a chain a value.
     #[tactic(auto, using(crate::proofs::Stops::fault_stops))]
     pub(crate) fn settle_side(&mut self, side: &ChainSide, value: &Value) -> Result<(), Stop>
-        requires side { reach_of_side side.now ≤ unknowns self.old }
-        requires value { reach value.now ≤ unknowns self.old }
+        requires side { IsWithin (reach_of_side side.now) (things self.old) }
+        requires value { IsWithin (reach value.now) (things self.old) }
         ensures { Acts (acting (gets side.now value.now)) result self.old self.new }
     {
         match side {
@@ -184,6 +192,7 @@ impl Evaluator {
     /// Does a command with a symbol.
     #[tactic(auto, using(crate::proofs::Stops::fault_stops))]
     pub(crate) fn with_each(&mut self, command: SymbolCommand, symbol: u32) -> Result<(), Stop>
+        requires { symbol < symbol_count self.old.acts }
         ensures { Acts (acting (change (groups.with_each command symbol))) result self.old self.new }
     {
         Ok(self.acts.do_symbol(command, symbol)?)
@@ -191,16 +200,20 @@ impl Evaluator {
 
     /// Gives a symbol the meaning of another.
     pub(crate) fn let_symbol(&mut self, symbol: u32, other: u32)
+        requires symbol { symbol < symbol_count self.old.acts }
+        requires other { other < symbol_count self.old.acts }
         ensures exact { self.new ≡ record self.old { acts = groups.let_symbol symbol other self.old.acts } }
-        ensures grown { unknowns self.old ≤ unknowns self.new }
+        ensures grown { IsWithin (things self.old) (things self.new) }
     {
         self.acts.do_let(symbol, other);
     }
 
     /// Makes two symbols a pair of delimiters.
     pub(crate) fn delimiters(&mut self, left: u32, right: u32)
+        requires left { left < symbol_count self.old.acts }
+        requires right { right < symbol_count self.old.acts }
         ensures exact { self.new ≡ record self.old { acts = groups.delimiters left right self.old.acts } }
-        ensures grown { unknowns self.old ≤ unknowns self.new }
+        ensures grown { IsWithin (things self.old) (things self.new) }
     {
         self.acts.do_delimiters(left, right);
     }
@@ -208,7 +221,8 @@ impl Evaluator {
     /// Gives an internal a known value, up to the end of the group.
     #[tactic(auto, using(crate::proofs::Stops::fault_stops))]
     pub(crate) fn interim(&mut self, k: u32, value: Value) -> Result<(), Stop>
-        requires { reach value ≤ unknowns self.old }
+        requires internal { k < internal_count self.old.acts }
+        requires value { IsWithin (reach value) (things self.old) }
         ensures { Acts (acting (groups.interim k value)) result self.old self.new }
     {
         Ok(self.acts.do_interim(k, &value)?)

@@ -1,8 +1,9 @@
 //! Chains of equations and assignments.
 
 ghost use Rattle.std.specs.Prelude.{◌≡◌, ◌≤◌, ◌++◌, ◌∷◌, [], reverse, OnOk};
+ghost use Rattle.mp_acts.specs.Counts.{IsWithin};
 ghost use Rattle.mp_acts.specs.Reach.{reach};
-ghost use Rattle.mp_rules.specs.Machine.{unknowns};
+ghost use Rattle.mp_rules.specs.Machine.{things};
 ghost use Rattle.mp_rules.specs.Rules.{Chain, ChainSide as ASide};
 ghost use Rattle.mp_rules.specs.Promises.{Means, ActsValue, GoesOn, Acts, used_by_side};
 ghost use Rattle.mp_rules.specs.Meaning.{the};
@@ -27,7 +28,7 @@ impl Evaluator {
     /// A side that begins with that primary, or is that target.
     #[cycle(eval)]
     fn side_from(&mut self, begun: ChainSide) -> Result<ChainSide, Stop>
-        requires { reach_of_side begun ≤ unknowns self.old }
+        requires { IsWithin (reach_of_side begun) (things self.old) }
         ensures { GoesOn (rules.side_from the begun) (used_by_side begun) result self.old self.new }
     {
         match begun {
@@ -52,8 +53,8 @@ impl Evaluator {
     /// Gives the sides a value, the last one first.
     #[tactic(auto, using(crate::proofs::ChainLemmas::settle_last, crate::proofs::ChainLemmas::settle_none, crate::proofs::ChainLemmas::reach_last))]
     fn settle(&mut self, sides: Vec<ChainSide>, value: &Value) -> Result<(), Stop>
-        requires sides { reach_of_sides (reverse sides.items) ≤ unknowns self.old }
-        requires value { reach value.now ≤ unknowns self.old }
+        requires sides { IsWithin (reach_of_sides (reverse sides.items)) (things self.old) }
+        requires value { IsWithin (reach value.now) (things self.old) }
         ensures { Acts (acting (settle (reverse sides.items) value.now)) result self.old self.new }
     {
         let mut left = sides;
@@ -65,8 +66,8 @@ impl Evaluator {
 
     /// The end of a chain: a lone expression is its value, else all sides get the last one.
     fn chain_end(&mut self, before: Vec<ChainSide>, value: Value) -> Result<Value, Stop>
-        requires sides { reach_of_sides (reverse before.items) ≤ unknowns self.old }
-        requires value { reach value ≤ unknowns self.old }
+        requires sides { IsWithin (reach_of_sides (reverse before.items)) (things self.old) }
+        requires value { IsWithin (reach value) (things self.old) }
         ensures { ActsValue (rules.chain_end (reverse before.items) value) result self.old self.new }
     {
         let lone = before.is_empty();

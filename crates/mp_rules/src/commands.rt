@@ -2,7 +2,7 @@
 
 ghost use Rattle.std.specs.Prelude.{◌≡◌};
 ghost use Rattle.mp_rules.specs.Rules.{ShowList, SymbolList, TypeList, CommandRest};
-ghost use Rattle.mp_rules.specs.Promises.{Means, Uses};
+ghost use Rattle.mp_rules.specs.Promises.{Means, Uses, UsesInternal};
 ghost use Rattle.mp_rules.specs.Meaning.{the};
 ghost use Rattle.mp_rules.specs.Rules as rules;
 
@@ -95,7 +95,7 @@ impl Evaluator {
     }
 
     fn internal_name(&mut self) -> Result<u32, Stop>
-        ensures { Uses (rules.internal_name the) result self.old self.new }
+        ensures { UsesInternal (rules.internal_name the) result self.old self.new }
     {
         self.next_front()?;
         match self.sign() {

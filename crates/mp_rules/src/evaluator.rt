@@ -1,14 +1,16 @@
 //! The evaluator and its single steps.
 
-ghost use Rattle.std.specs.Prelude.{◌≡◌, ◌≢◌, ◌≤◌, List, ℕ, Err, map};
+ghost use Rattle.std.specs.Prelude.{◌≡◌, ◌≢◌, ◌<◌, ◌≤◌, List, ℕ, Err, map};
 ghost use Rattle.mp_values.specs.Outcome.{IsStop, Yields};
 ghost use Rattle.mp_rules.specs.Fronts.{stood, raw_stood, refused_front, refused_raw};
 ghost use Rattle.mp_rules.specs.Promises.{Acts, Took};
 ghost use Rattle.mp_rules.specs.Starts.{start_on, whole};
 ghost use Rattle.mp_rules.specs.Meaning.{the};
 ghost use Rattle.mp_rules.specs.Steps as steps;
-ghost use Rattle.mp_rules.specs.Reach.{reach_of_text};
-ghost use Rattle.mp_acts.specs.State.{unknown_count};
+ghost use Rattle.mp_rules.specs.Reach.{reach_of_text, reach_of_front, reach_of_held, reach_of_raw};
+ghost use Rattle.mp_rules.specs.Machine.{things};
+ghost use Rattle.mp_acts.specs.Counts.{IsWithin};
+ghost use Rattle.mp_acts.specs.State.{counts, symbol_count};
 
 use crate::front::{Front, Raw};
 use mp_acts::State;
@@ -58,10 +60,10 @@ impl Model for Evaluator {
       acts = r.acts;
     } };
 
-    ghost use Rattle.mp_acts.specs.State.{unknown_count};
-    ghost use Rattle.mp_rules.specs.Reach.{reach_of_text};
+    ghost use Rattle.mp_acts.specs.State.{counts};
+    ghost use Rattle.mp_rules.specs.Reach.{IsReadable};
 
-    ghost invariant = { λ r. (r.steps ≤ r.budget) × (reach_of_text r.input.text ≤ unknown_count r.acts) };
+    ghost invariant = { λ r. (r.steps ≤ r.budget) × IsReadable r.input.text r.front r.held (counts r.acts) };
 }
 
 /// What a run leaves.
@@ -77,7 +79,7 @@ pub struct Finished {
 impl Evaluator {
     /// An evaluator at the start of a text. Each source was asked for once.
     pub fn new(alloc: Global, sources: Sources, input: Input, acts: State, budget: u64) -> Evaluator
-        requires { reach_of_text input.text ≤ unknown_count acts }
+        requires { IsWithin (reach_of_text input.text) (counts acts) }
         ensures { result ≡ start_on sources input.text input.last acts budget }
     {
         Evaluator {
@@ -154,18 +156,20 @@ impl Evaluator {
     }
 
     /// One step: what is first in the text.
-    #[tactic(auto, unfolding(crate::specs::Steps::take_first))]
+    #[tactic(auto, using(crate::proofs::ReachLemmas::taken_within), unfolding(crate::specs::Steps::take_first))]
     pub(crate) fn take(&mut self) -> Result<Option<Pending>, Stop>
         ensures took { Took result self.old self.new }
         ensures front { self.new.front ≡ self.old.front }
         ensures held { self.new.held ≡ self.old.held }
     {
         if self.steps < self.budget {
-            let taken = self.input.take()?;
-            if taken.is_some() {
-                self.steps += 1;
+            match self.input.take()? {
+                Some(first) => {
+                    self.steps += 1;
+                    Ok(Some(first))
+                }
+                None => Ok(None),
             }
-            Ok(taken)
         } else if self.input.is_over() {
             Ok(None)
         } else {
@@ -175,13 +179,15 @@ impl Evaluator {
 
     /// The front in hand.
     pub(crate) fn sign(&self) -> Front
-        ensures { result ≡ self.now.front }
+        ensures exact { result ≡ self.now.front }
+        ensures within { IsWithin (reach_of_front result) (things self.now) }
     {
         self.front
     }
 
     /// A front comes to hand.
     pub(crate) fn see(&mut self, front: Front)
+        requires { IsWithin (reach_of_front front) (things self.old) }
         ensures { self.new ≡ steps.see front self.old }
     {
         self.front = front;
@@ -209,6 +215,7 @@ impl Evaluator {
     /// The front that is held, which is then held no more.
     pub(crate) fn release(&mut self) -> Option<Front>
         ensures front { result ≡ self.old.held }
+        ensures within { IsWithin (reach_of_held result) (things self.old) }
         ensures machine { self.new ≡ record self.old { held = None } }
     {
         self.held.take()
@@ -216,6 +223,7 @@ impl Evaluator {
 
     /// Holds the front in hand, behind a slash which is then in hand.
     pub(crate) fn hold(&mut self, slash: u32)
+        requires { slash < symbol_count self.old.acts }
         ensures { self.new ≡ steps.hold slash self.old }
     {
         self.held = Some(self.front);
@@ -266,6 +274,7 @@ impl Evaluator {
     }
 
     fn raw_stood(&self, raw: Raw) -> &[u8]
+        requires { IsWithin (reach_of_raw raw) (things self.now) }
         ensures { result.now ≡ raw_stood self.now.acts raw }
     {
         match raw {
@@ -285,6 +294,7 @@ impl Evaluator {
 
     /// The refusal of a raw item where something else was wanted.
     pub(crate) fn unexpected_raw(&self, wanted: &[u8], raw: Raw) -> Stop
+        requires { IsWithin (reach_of_raw raw) (things self.now) }
         ensures { IsStop result (refused_raw wanted.now raw self.now) }
     {
         Stop::unexpected(self.alloc, wanted, self.raw_stood(raw))

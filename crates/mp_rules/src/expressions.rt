@@ -1,8 +1,9 @@
 //! Secondaries, tertiaries and expressions.
 
 ghost use Rattle.std.specs.Prelude.{◌≡◌, ◌≤◌};
+ghost use Rattle.mp_acts.specs.Counts.{IsWithin};
 ghost use Rattle.mp_acts.specs.Reach.{reach};
-ghost use Rattle.mp_rules.specs.Machine.{unknowns};
+ghost use Rattle.mp_rules.specs.Machine.{things};
 ghost use Rattle.mp_rules.specs.Rules.{SecondaryRest, Secondary, TertiaryRest, ExpressionFrom, Expression};
 ghost use Rattle.mp_rules.specs.Promises.{Means};
 
@@ -14,7 +15,7 @@ impl Evaluator {
     #[cycle(eval)]
     #[tactic(auto, using(crate::proofs::Cases::secondary_rest_is))]
     fn secondary_rest(&mut self, left: Value) -> Result<Value, Stop>
-        requires { reach left ≤ unknowns self.old }
+        requires { IsWithin (reach left) (things self.old) }
         ensures { Means (SecondaryRest left) result self.old self.new }
     {
         let mut so_far = left;
@@ -43,7 +44,7 @@ impl Evaluator {
     #[cycle(eval)]
     #[tactic(auto, using(crate::proofs::Cases::tertiary_rest_is))]
     fn tertiary_rest(&mut self, left: Value) -> Result<Value, Stop>
-        requires { reach left ≤ unknowns self.old }
+        requires { IsWithin (reach left) (things self.old) }
         ensures { Means (TertiaryRest left) result self.old self.new }
     {
         let mut so_far = left;
@@ -63,7 +64,7 @@ impl Evaluator {
     #[cycle(eval)]
     #[tactic(auto, using(crate::proofs::Cases::expression_from_is))]
     pub(crate) fn expression_from(&mut self, first: Value) -> Result<Value, Stop>
-        requires { reach first ≤ unknowns self.old }
+        requires { IsWithin (reach first) (things self.old) }
         ensures { Means (ExpressionFrom first) result self.old self.new }
     {
         let second = self.secondary_rest(first)?;

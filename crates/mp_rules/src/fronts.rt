@@ -1,10 +1,14 @@
 //! Fronts and raw items: how the next one is got.
 
-ghost use Rattle.std.specs.Prelude.{◌≡◌};
+ghost use Rattle.std.specs.Prelude.{◌≡◌, ◌<◌, IfOk};
 ghost use Rattle.mp_values.specs.Outcome.{Yields};
 ghost use Rattle.mp_rules.specs.Fronts.{symbol_front};
 ghost use Rattle.mp_rules.specs.Rules.{NextFront, NextRaw, raw_symbol};
-ghost use Rattle.mp_rules.specs.Promises.{Means, Uses};
+ghost use Rattle.mp_acts.specs.Counts.{IsWithin};
+ghost use Rattle.mp_acts.specs.State.{symbol_count};
+ghost use Rattle.mp_rules.specs.Machine.{things};
+ghost use Rattle.mp_rules.specs.Reach.{reach_of_front};
+ghost use Rattle.mp_rules.specs.Promises.{Means, UsesSymbol};
 ghost use Rattle.mp_rules.specs.Meaning.{the};
 
 use crate::evaluator::Evaluator;
@@ -41,7 +45,9 @@ impl Evaluator {
 
     /// A symbol as a front; a word that is not built is refused.
     fn symbol_front(&self, symbol: u32) -> Result<Front, Stop>
-        ensures { Yields result self.now (symbol_front symbol self.now) }
+        requires { symbol < symbol_count self.now.acts }
+        ensures exact { Yields result self.now (symbol_front symbol self.now) }
+        ensures within { IfOk result (λ front. IsWithin (reach_of_front front) (things self.now)) }
     {
         match self.acts.symbol_meaning(symbol) {
             Meaning::Word(word) => Ok(Front::Word(symbol, *word)),
@@ -73,7 +79,7 @@ impl Evaluator {
 
     /// A symbol as it stands.
     pub(crate) fn raw_symbol(&mut self) -> Result<u32, Stop>
-        ensures { Uses (raw_symbol the) result self.old self.new }
+        ensures { UsesSymbol (raw_symbol the) result self.old self.new }
     {
         match self.raw()? {
             Raw::Symbol(symbol) => Ok(symbol),

@@ -1,8 +1,10 @@
 //! Primaries.
 
-ghost use Rattle.std.specs.Prelude.{◌≡◌, ◌≤◌};
-ghost use Rattle.mp_acts.specs.Reach.{reach};
-ghost use Rattle.mp_rules.specs.Machine.{unknowns};
+ghost use Rattle.std.specs.Prelude.{◌≡◌, ◌<◌};
+ghost use Rattle.mp_acts.specs.Counts.{IsWithin, greatest};
+ghost use Rattle.mp_acts.specs.Reach.{reach, reach_of_part, reach_of_pair};
+ghost use Rattle.mp_acts.specs.State.{symbol_count, internal_count};
+ghost use Rattle.mp_rules.specs.Machine.{things};
 ghost use Rattle.mp_rules.specs.Rules.{NumberThen, Factor, VariableName, Group, PrimaryInside, Primary, Leading};
 ghost use Rattle.mp_rules.specs.Promises.{Means, ActsValue, ActsSide, GoesOn, UsesValue};
 ghost use Rattle.mp_rules.specs.Meaning.{the};
@@ -76,7 +78,7 @@ impl Evaluator {
     #[cycle(eval)]
     #[tactic(auto, using(crate::proofs::Cases::factor_is))]
     fn factor(&mut self, value: Value) -> Result<Value, Stop>
-        requires { reach value ≤ unknowns self.old }
+        requires { IsWithin (reach value) (things self.old) }
         ensures { Means (Factor value) result self.old self.new }
     {
         if self.sign().begins_factor() {
@@ -91,6 +93,7 @@ impl Evaluator {
     #[cycle(eval)]
     #[tactic(auto, using(crate::proofs::Cases::variable_name_is))]
     fn variable_name(&mut self, symbol: u32) -> Result<(u32, Suffix), Stop>
+        requires { symbol < symbol_count self.old.acts }
         ensures { Means (VariableName symbol) result self.old self.new }
     {
         let root = self.root_of(symbol)?;
@@ -102,6 +105,7 @@ impl Evaluator {
     /// A variable, which is read when the front behind its name was got.
     #[cycle(eval)]
     fn variable(&mut self, symbol: u32) -> Result<Value, Stop>
+        requires { symbol < symbol_count self.old.acts }
         ensures { UsesValue (rules.variable the symbol) result self.old self.new }
     {
         let (root, parts) = self.variable_name(symbol)?;
@@ -111,6 +115,7 @@ impl Evaluator {
     /// An expression in parentheses.
     #[cycle(eval)]
     fn parenthesis(&mut self, pair: Delimiters) -> Result<Value, Stop>
+        requires { IsWithin (reach_of_pair pair) (things self.old) }
         ensures { UsesValue (rules.parenthesis the pair) result self.old self.new }
     {
         let value = self.next_expression()?;
@@ -119,7 +124,8 @@ impl Evaluator {
 
     /// The end of an expression in parentheses.
     fn closed(&mut self, pair: Delimiters, value: Value) -> Result<Value, Stop>
-        requires { reach value ≤ unknowns self.old }
+        requires pair { IsWithin (reach_of_pair pair) (things self.old) }
+        requires value { IsWithin (reach value) (things self.old) }
         ensures { ActsValue (rules.closed the pair value) result self.old self.new }
     {
         match self.sign() {
@@ -155,6 +161,7 @@ impl Evaluator {
     }
 
     fn internal(&mut self, k: u32) -> Result<Value, Stop>
+        requires { k < internal_count self.old.acts }
         ensures { UsesValue (rules.internal the k) result self.old self.new }
     {
         self.next_front()?;
@@ -227,6 +234,8 @@ impl Evaluator {
     }
 
     fn variable_side(&mut self, symbol: u32, root: u32, name: Suffix) -> Result<ChainSide, Stop>
+        requires symbol { symbol < symbol_count self.old.acts }
+        requires name { IsWithin (greatest reach_of_part name) (things self.old) }
         ensures { ActsSide (rules.variable_side symbol root name) result self.old self.new }
     {
         match self.sign() {
@@ -239,6 +248,7 @@ impl Evaluator {
     }
 
     fn internal_side(&mut self, k: u32) -> Result<ChainSide, Stop>
+        requires { k < internal_count self.old.acts }
         ensures { ActsSide (rules.internal_side k) result self.old self.new }
     {
         match self.sign() {

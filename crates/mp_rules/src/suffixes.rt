@@ -48,7 +48,7 @@ impl Evaluator {
 
     /// The parts behind a tag: symbols, numbers, and subscripts in brackets.
     #[cycle(eval)]
-    #[tactic(auto, using(crate::proofs::Cases::suffix_is, crate::proofs::Units::passed_on))]
+    #[tactic(auto, using(crate::proofs::Cases::suffix_is, crate::proofs::Units::passed_on, crate::proofs::ReachLemmas::greatest_none, crate::proofs::ReachLemmas::greatest_push))]
     pub(crate) fn suffix(&mut self) -> Result<Suffix, Stop>
         ensures { Means (rules.Suffix []) result self.old self.new }
     {

@@ -1,6 +1,7 @@
 use Rattle.std.proofs.Common.{◌≡◌, ◌≤◌, ◌+◌, ◌*◌, [], reverse}
-use Rattle.mp_acts.specs.Reach.{reach}
-use Rattle.mp_rules.specs.Machine.{coming, left, unknowns}
+use Rattle.mp_acts.specs.Counts.{greatest, IsWithin}
+use Rattle.mp_acts.specs.Reach.{reach, reach_of_part}
+use Rattle.mp_rules.specs.Machine.{coming, left, things}
 use Rattle.mp_rules.specs.Chains.{reach_of_side, reach_of_sides}
 use Rattle.mp_rules.specs.Promises.{used_by_side}
 use Rattle.mp_rules.specs.Rules.{NumberThen, Factor, VariableName, Suffix, Group, PrimaryInside, Primary, Leading, SecondaryRest, Secondary, TertiaryRest, ExpressionFrom, Expression, ChainSide, ChainRest, Chain, ShowList, CommandRest, Statement, GroupStatements}
@@ -112,8 +113,8 @@ invariant-secondary_rest-primaries l = record {
   went : left l.self ≤ left l.fn.self;
   kept : l.self.budget ≡ l.fn.self.budget;
   files : l.self.sources ≡ l.fn.self.sources;
-  grown : unknowns l.fn.self ≤ unknowns l.self;
-  within : reach l.so_far ≤ unknowns l.self;
+  grown : IsWithin (things l.fn.self) (things l.self);
+  within : IsWithin (reach l.so_far) (things l.self);
 }
 
 abbrev pub decreases-secondary_rest-primaries : goal.decreases-secondary_rest-primaries
@@ -125,8 +126,8 @@ invariant-tertiary_rest-secondaries l = record {
   went : left l.self ≤ left l.fn.self;
   kept : l.self.budget ≡ l.fn.self.budget;
   files : l.self.sources ≡ l.fn.self.sources;
-  grown : unknowns l.fn.self ≤ unknowns l.self;
-  within : reach l.so_far ≤ unknowns l.self;
+  grown : IsWithin (things l.fn.self) (things l.self);
+  within : IsWithin (reach l.so_far) (things l.self);
 }
 
 abbrev pub decreases-tertiary_rest-secondaries : goal.decreases-tertiary_rest-secondaries
@@ -138,9 +139,9 @@ invariant-chain-sides l = record {
   went : left l.self + used_by_side l.last ≤ left l.fn.self;
   kept : l.self.budget ≡ l.fn.self.budget;
   files : l.self.sources ≡ l.fn.self.sources;
-  grown : unknowns l.fn.self ≤ unknowns l.self;
-  within : reach_of_side l.last ≤ unknowns l.self;
-  before : reach_of_sides (reverse l.before.items) ≤ unknowns l.self;
+  grown : IsWithin (things l.fn.self) (things l.self);
+  within : IsWithin (reach_of_side l.last) (things l.self);
+  before : IsWithin (reach_of_sides (reverse l.before.items)) (things l.self);
 }
 
 abbrev pub decreases-chain-sides : goal.decreases-chain-sides
@@ -152,7 +153,7 @@ invariant-show_list-expressions l = record {
   went : coming l.self ≤ coming l.fn.self;
   kept : l.self.budget ≡ l.fn.self.budget;
   files : l.self.sources ≡ l.fn.self.sources;
-  grown : unknowns l.fn.self ≤ unknowns l.self;
+  grown : IsWithin (things l.fn.self) (things l.self);
 }
 
 abbrev pub decreases-show_list-expressions : goal.decreases-show_list-expressions
@@ -164,7 +165,7 @@ invariant-group_statements-statements l = record {
   went : left l.self ≤ left l.fn.self;
   kept : l.self.budget ≡ l.fn.self.budget;
   files : l.self.sources ≡ l.fn.self.sources;
-  grown : unknowns l.fn.self ≤ unknowns l.self;
+  grown : IsWithin (things l.fn.self) (things l.self);
 }
 
 abbrev pub decreases-group_statements-statements : goal.decreases-group_statements-statements
@@ -176,7 +177,8 @@ invariant-suffix-parts l = record {
   went : left l.self ≤ left l.fn.self;
   kept : l.self.budget ≡ l.fn.self.budget;
   files : l.self.sources ≡ l.fn.self.sources;
-  grown : unknowns l.fn.self ≤ unknowns l.self;
+  grown : IsWithin (things l.fn.self) (things l.self);
+  within : IsWithin (greatest reach_of_part l.parts) (things l.self);
 }
 
 abbrev pub decreases-suffix-parts : goal.decreases-suffix-parts

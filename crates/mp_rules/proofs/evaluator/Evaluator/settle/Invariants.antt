@@ -1,5 +1,6 @@
 use Rattle.std.proofs.Common.{◌≡◌, ◌≤◌, reverse, vec_len}
-use Rattle.mp_rules.specs.Machine.{left, unknowns}
+use Rattle.mp_acts.specs.Counts.{IsWithin}
+use Rattle.mp_rules.specs.Machine.{left, things}
 use Rattle.mp_acts.specs.Reach.{reach}
 use Rattle.mp_rules.specs.Chains.{settle, reach_of_sides}
 use Rattle.mp_rules.specs.Steps.{acting}
@@ -11,9 +12,9 @@ invariant-sides l = record {
   went : left l.self ≤ left l.fn.self;
   kept : l.self.budget ≡ l.fn.self.budget;
   files : l.self.sources ≡ l.fn.self.sources;
-  grown : unknowns l.fn.self ≤ unknowns l.self;
-  within : reach_of_sides (reverse l.left.items) ≤ unknowns l.self;
-  known : reach l.value ≤ unknowns l.self;
+  grown : IsWithin (things l.fn.self) (things l.self);
+  within : IsWithin (reach_of_sides (reverse l.left.items)) (things l.self);
+  known : IsWithin (reach l.value) (things l.self);
 }
 
 abbrev pub decreases-sides : goal.decreases-sides

@@ -1,5 +1,6 @@
 use Rattle.std.proofs.Common.{◌≡◌, ◌≤◌}
-use Rattle.mp_rules.specs.Machine.{coming, unknowns}
+use Rattle.mp_acts.specs.Counts.{IsWithin}
+use Rattle.mp_rules.specs.Machine.{coming, things}
 use Rattle.mp_rules.specs.Rules.{SymbolList}
 use Rattle.mp_rules.specs.Meaning.{the}
 use Rattle.mp_rules.proofs.evaluator.Evaluator.symbol_list.Given as goal
@@ -10,7 +11,7 @@ invariant-symbols l = record {
   went : coming l.self ≤ coming l.fn.self;
   kept : l.self.budget ≡ l.fn.self.budget;
   files : l.self.sources ≡ l.fn.self.sources;
-  grown : unknowns l.fn.self ≤ unknowns l.self;
+  grown : IsWithin (things l.fn.self) (things l.self);
 }
 
 abbrev pub decreases-symbols : goal.decreases-symbols
