@@ -148,7 +148,8 @@ module _ (order : StayInOrder) (states : States) (solved : IsSolved states) (res
           | inl same ↦ exchanged_pivot t ts same (ap coefficient_in (absent_below s t.serial ts below.1 (omega (arith, same)))) rest
           | inr differ ↦
               rw (first_other s t ts differ)
-              (more_other t.coefficient (number_in (number part) (form_of after t.serial)) (number_in (number part) (form_of states t.serial)) (number_in (number (Some s)) (form_of states t.serial)) (number part new)
+              (more_other t.coefficient
+              (number_in (number part) (form_of after t.serial)) (number_in (number part) (form_of states t.serial)) (number_in (number (Some s)) (form_of states t.serial)) (number part new)
               (number_added (number part) after ts) (number_added (number part) states ts) (number_added (number (Some s)) states ts) (coefficient_of s ts)
               (exchanged t.serial (All-head (λ t. IsSerial states t.serial) t ts over) differ) rest)
         ]
@@ -157,11 +158,13 @@ module _ (order : StayInOrder) (states : States) (solved : IsSolved states) (res
     substituted_after : (p : LinearForm) → AreTerms p.terms → IsOver states p →
         pos 268435456 *ℤ substituted (number part) after p ≡ pos 268435456 *ℤ substituted (number part) states p +ℤ substituted (number (Some s)) states p *ℤ number part new
     substituted_after p are over =
-        whole_form (number part p) (coefficient_of s p.terms) (number part new) (number_added (number part) after p.terms) (number_added (number part) states p.terms) (number_added (number (Some s)) states p.terms)
+        whole_form (number part p) (coefficient_of s p.terms) (number part new)
+        (number_added (number part) after p.terms) (number_added (number part) states p.terms) (number_added (number (Some s)) states p.terms)
         (exchanged_terms (2 ^ 32) p.terms are.serials over)
 
     -- an equation that was satisfied is so still
-    pub stays_satisfied : (p : LinearForm) → AreTerms p.terms → IsOver states p → substituted (number part) states p ≡ pos 0 → substituted (number (Some s)) states p ≡ pos 0 → substituted (number part) after p ≡ pos 0
+    pub stays_satisfied : (p : LinearForm) → AreTerms p.terms → IsOver states p →
+        substituted (number part) states p ≡ pos 0 → substituted (number (Some s)) states p ≡ pos 0 → substituted (number part) after p ≡ pos 0
     stays_satisfied p are over none none' =
         stays_zero (substituted (number part) after p) (substituted (number part) states p) (substituted (number (Some s)) states p) (number part new) (substituted_after p are over) none none'
 

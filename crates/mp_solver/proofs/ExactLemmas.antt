@@ -173,7 +173,8 @@ module _ (order : StayInOrder) (events : List Event) (states : States) (kept : A
         | inr taken ↦ AreKept-taken taken.1
       ])
 
-AreKept-event : (order : StayInOrder) (events : List Event) → AreKept events (replay events).states → (event : Event) → IsExactEvent (replay events) event → AreKept (events ++ event ∷ []) (after (replay events) event).states
+AreKept-event : (order : StayInOrder) (events : List Event) → AreKept events (replay events).states → (event : Event) → IsExactEvent (replay events) event →
+    AreKept (events ++ event ∷ []) (after (replay events) event).states
 AreKept-event order events kept (Fresh name) exact = no_equation events (Fresh name) (with_fresh (replay events).states) (λ p same. cc) (AreKept-fresh events (replay events).states kept)
 AreKept-event order events kept (Equation difference) exact = AreKept-equation order events (replay events).states kept difference exact
 AreKept-event order events kept (Unname serial) exact = no_equation events (Unname serial) (replay events).states (λ p same. cc) kept

@@ -81,7 +81,8 @@ module _ (order : StayInOrder) (states : States) (solved : IsSolved states) (par
       subst (λ n. OkSum n (fold (with_term_of states) next ts)) (+ℤ_assoc total added (number_added (number part) states ts))
       (sum_fold (total +ℤ added) next ts (sum_step total start t so_far exact.0) exact.1)
 
-  module _ (p residual : LinearForm) (free : IsFreePart states part) (are : AreTerms p.terms) (exact : AreExactTerms states (Ok (independent_part states p)) p.terms) (is : Ok residual ≡ reduce_of states p) where
+  module _ (p residual : LinearForm) (free : IsFreePart states part) (are : AreTerms p.terms)
+      (exact : AreExactTerms states (Ok (independent_part states p)) p.terms) (is : Ok residual ≡ reduce_of states p) where
     reduced_sum : IsSum (substituted (number part) states p) residual
     reduced_sum =
         let start : IsSum (pos 268435456 *ℤ number part p) (independent_part states p) = record {

@@ -108,7 +108,8 @@ module _ (pivot : Term) (p : LinearForm) (some : 0 < unsigned_abs pivot.coeffici
       rw (solved_coefficient u other) (opposite v c (ratio_times (pos 268435456) v c) whole)
 
 -- a form where another one replaces an unknown
-module _ (order : StayInOrder) (serial : ℕ) (new p : LinearForm) (left : AreTerms p.terms) (right : AreTerms new.terms) (exact : IsExactReplacement serial new p) (part : Option ℕ) (other : IsOther serial part) where
+module _ (order : StayInOrder) (serial : ℕ) (new p : LinearForm) (left : AreTerms p.terms) (right : AreTerms new.terms)
+    (exact : IsExactReplacement serial new p) (part : Option ℕ) (other : IsOther serial part) where
   abbrev IsReplaced : Option Term → Type 0
   IsReplaced term = pos 268435456 *ℤ number part (replaced_term serial new p term) ≡ pos 268435456 *ℤ number part p +ℤ coefficient_in term *ℤ number part new
 

@@ -21,3 +21,4 @@ pub mod ExactSumLemmas
 pub mod ExactReductionLemmas
 pub mod ExactEliminationLemmas
 pub mod ExactLemmas
+pub mod ExactExamples
