@@ -15,3 +15,10 @@ pub mod AppliedLemmas
 pub mod VisitLemmas
 pub mod LimitLemmas
 pub mod ReplayLemmas
+pub mod CoefficientLemmas
+pub mod WholeNumberLemmas
+pub mod ExactSumLemmas
+pub mod ExactReductionLemmas
+pub mod ExactEliminationLemmas
+pub mod ExactLemmas
+pub mod ExactExamples

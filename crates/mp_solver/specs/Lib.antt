@@ -5,4 +5,5 @@ pub mod Elimination
 pub mod Solved
 pub mod Ready
 pub mod Replay
+pub mod Exact
 pub mod Storage

@@ -9,6 +9,7 @@
 
 mod change;
 mod equated;
+mod exact;
 mod fresh;
 mod limits;
 mod replay;
@@ -20,6 +21,7 @@ mod tally;
 mod view;
 
 pub use equated::Equated;
+pub use exact::exact_lists_are_solved;
 pub use fresh::Fresh;
 pub use limits::{TERM_LIMIT, UNKNOWN_LIMIT};
 pub use replay::{replays_go_on, systems_are_replays};
