@@ -1,105 +1,187 @@
--- Whether a merge stays in range, term by term.
-use Rattle.std.proofs.Common.{◌≡◌, ◌↔◌, inl, inr, ◌<◌, ◌^◌, ℕ, ◌∷◌, [], List, arith, refl, ap, sym, ◌∙◌, true, false, Bool, drop, get_or, suc}
-use Rattle.std.specs.Prelude.{ℤ, ◌+ℤ◌, unsigned_abs, ◌&&◌}
-use Rattle.std.proofs.lemmas.Bool.Decides.{nat_tests}
-use Rattle.std.proofs.lemmas.Bool.{cases_lt, ltb-true, lt-ltb}
+-- Whether a merge stays in range, and how many terms it has, term by term.
+use Rattle.std.proofs.Common.{◌≡◌, ◌≢◌, ◌↔◌, ◌⊎◌, inl, inr, ◌<◌, ◌^◌, ◌+◌, ℕ, ◌∷◌, [], List, Option, Some, None, length, cond, eqb, not, arith, refl, ap, sym, ◌∙◌, Bool, drop, suc, subst}
+use Rattle.std.specs.Prelude.{ℤ, ◌+ℤ◌, unsigned_abs}
+use Rattle.std.specs.Option.{IsNone, IfSome}
+use Rattle.std.proofs.lemmas.Bool.{cases_lt, cases_eq, lt-ltb, le-ltb, eq-eqb, ne_eqb}
 use Rattle.std.proofs.lemmas.List.Elements.{All-nil, All-cons}
 use Rattle.mp_pool.specs.declared.Term.{Term}
-use Rattle.mp_pool.specs.Terms.{AreTerms, AreOrdered, HasTooLarge}
-use Rattle.mp_pool.specs.Storage.Merge.{merge, kept, FrontBelow, IsSmall, small, are_small, AreSmall}
+use Rattle.mp_pool.specs.Terms.{SerialsDecrease, without, AreTerms, AreOrdered, HasTooLarge}
+use Rattle.mp_pool.specs.Storage.Merge.{merge, kept, plus, fitting, FrontBelow, IsSmall, AreSmall}
+use Rattle.mp_pool.proofs.TermLemmas.{SerialsDecrease-more, SerialsDecrease-filter}
 use Rattle.mp_pool.proofs.Merging.{merge-greater, merge-same, merge-new, merge-nil}
 
-pub small-kept : (least s : ℕ) (c : ℤ) (rest : List Term) → least < 2 ^ 44 → are_small (kept least s c rest) ≡ (small c && are_small rest)
-small-kept least s c rest h = grind (arith, nat_tests)
+pub plus-assoc : (a b c : Option ℕ) → plus (plus a b) c ≡ plus a (plus b c)
+plus-assoc None b c = refl
+plus-assoc (Some k) None c = refl
+plus-assoc (Some k) (Some m) None = refl
+plus-assoc (Some k) (Some m) (Some n) = ap (λ (x : ℕ). Some x) (omega arith)
 
-pub small-passed : (change : ℤ → ℤ) (p : Term) (ps : List Term) (q : Term) (qs : List Term) → q.serial < p.serial → IsSmall p →
-    are_small (merge change (p ∷ ps) (q ∷ qs)) ≡ are_small (merge change ps (q ∷ qs))
-small-passed change p ps q qs less fits = ap are_small (merge-greater change p ps q qs less) ∙ grind (arith, nat_tests)
+pub plus-zero : (a : Option ℕ) → plus (Some 0) a ≡ a
+plus-zero None = refl
+plus-zero (Some n) = ap (λ (x : ℕ). Some x) (omega arith)
 
-pub small-same : (change : ℤ → ℤ) (p : Term) (ps : List Term) (q : Term) (qs : List Term) → p.serial ≡ q.serial →
-    are_small (merge change (p ∷ ps) (q ∷ qs)) ≡ (small (p.coefficient +ℤ change q.coefficient) && are_small (merge change ps qs))
-small-same change p ps q qs same = ap are_small (merge-same change p ps q qs same) ∙ small-kept 2685 q.serial (p.coefficient +ℤ change q.coefficient) (merge change ps qs) (omega arith)
+pub plus-none : (a : Option ℕ) → plus a None ≡ None
+plus-none None = refl
+plus-none (Some n) = refl
 
-pub small-new : (change : ℤ → ℤ) (ps : List Term) (q : Term) (qs : List Term) → FrontBelow q.serial ps →
-    are_small (merge change ps (q ∷ qs)) ≡ (small (change q.coefficient) && are_small (merge change ps qs))
-small-new change ps q qs front = ap are_small (merge-new change ps q qs front) ∙ small-kept 1343 q.serial (change q.coefficient) (merge change ps qs) (omega arith)
+fitting-small : (t : Term) (ts : List Term) → IsSmall t → fitting (t ∷ ts) ≡ plus (Some 1) (fitting ts)
+fitting-small t ts fits = ap (λ (b : Bool). plus (cond b (Some 1) None) (fitting ts)) (lt-ltb (unsigned_abs t.coefficient) (2 ^ 44) fits)
 
--- a first term that is passed
-pub small-first : (change : ℤ → ℤ) (left : List Term) (p q : Term) (qs : List Term) → left ≡ p ∷ drop 1 left → q.serial < p.serial → AreSmall left →
-    are_small (merge change (drop 1 left) (q ∷ qs)) ≡ are_small (merge change left (q ∷ qs))
-small-first change [] p q qs is less all = cc
-small-first change (x ∷ xs) p q qs is less all =
-    let e : x ≡ p = ap (λ (ts : List Term). get_or ts 0 p) is in
-    sym (small-passed change x xs q qs (rw e less) (all 0 x (omega arith)))
+without-other : (omitted : ℕ) (p : Term) (ps : List Term) → p.serial ≢ omitted → without omitted (p ∷ ps) ≡ p ∷ without omitted ps
+without-other omitted p ps other = ap (λ (b : Bool). cond (not b) (p ∷ without omitted ps) (without omitted ps)) (ne_eqb p.serial omitted other)
 
-pub fit-same : (change : ℤ → ℤ) (q : Term) (left : List Term) (c m : ℤ) → left ≡ record { serial = q.serial; coefficient = c } ∷ drop 1 left → m ≡ c +ℤ change q.coefficient →
-    (qs : List Term) → are_small (merge change left (q ∷ qs)) ≡ (small m && are_small (merge change (drop 1 left) qs))
-fit-same change q left c m is sum qs =
-    ap (λ (xs : List Term). are_small (merge change xs (q ∷ qs))) is
-    ∙ small-same change (record { serial = q.serial; coefficient = c }) (drop 1 left) q qs refl
-    ∙ ap (λ (x : ℤ). small x && are_small (merge change (drop 1 left) qs)) (sym sum)
+without-same : (omitted : ℕ) (p : Term) (ps : List Term) → p.serial ≡ omitted → without omitted (p ∷ ps) ≡ without omitted ps
+without-same omitted p ps same = ap (λ (b : Bool). cond (not b) (p ∷ without omitted ps) (without omitted ps)) (eq-eqb p.serial omitted same)
 
-pub fit-new : (change : ℤ → ℤ) (q : Term) (left : List Term) (m : ℤ) → FrontBelow q.serial left → m ≡ change q.coefficient →
-    (qs : List Term) → are_small (merge change left (q ∷ qs)) ≡ (small m && are_small (merge change left qs))
-fit-new change q left m front is qs = small-new change left q qs front ∙ ap (λ (x : ℤ). small x && are_small (merge change left qs)) (sym is)
+pub terms-drop : (ts : List Term) → AreTerms ts → AreTerms (drop 1 ts)
+terms-drop [] are = are
+terms-drop (t ∷ ts) are = record {
+  serials = SerialsDecrease-more t.serial (2 ^ 32) ts (omega (arith, are.serials.0)) are.serials.1;
+  coefficients = λ k d h. are.coefficients (suc k) d (omega arith);
+}
 
-pub are_small-all : (ts : List Term) → AreSmall ts → are_small ts ≡ true
-are_small-all [] all = refl
-are_small-all (t ∷ ts) all = let first : IsSmall t = all 0 t (omega arith) in
-    let rest = are_small-all ts (λ k d h. all (suc k) d (omega arith)) in grind (arith, nat_tests)
+pub first-small : (t : Term) (ts : List Term) → ts ≡ t ∷ drop 1 ts → AreTerms ts → IsSmall t
+first-small t [] is are = absurd cc
+first-small t (u ∷ us) is are = let same : u ≡ t = cc in subst IsSmall same (are.coefficients 0 u (omega arith)).1
 
--- a coefficient in range changes nothing
-pub fit-step : (change : ℤ → ℤ) (m : ℤ) (q : Term) (passed next rest left : List Term) (all : Bool) → unsigned_abs m < 2 ^ 44 →
-    are_small (merge change passed (q ∷ drop 1 rest)) ≡ (small m && are_small (merge change next (drop 1 rest))) →
-    are_small (merge change passed (q ∷ drop 1 rest)) ≡ are_small (merge change left (q ∷ drop 1 rest)) → rest ≡ q ∷ drop 1 rest →
-    are_small (merge change left rest) ≡ all → are_small (merge change next (drop 1 rest)) ≡ all
-fit-step change m q passed next rest left all fits taken skipped is so =
-    let yes : small m ≡ true = grind (arith, nat_tests) in
-    sym (taken ∙ ap (λ (b : Bool). b && are_small (merge change next (drop 1 rest))) yes)
-    ∙ skipped ∙ ap (λ (xs : List Term). are_small (merge change left xs)) (sym is) ∙ so
+-- a term that is passed
+pub passed-other : (omitted : ℕ) (change : ℤ → ℤ) (p q : Term) (ps qs : List Term) → p.serial ≢ omitted → q.serial < p.serial → IsSmall p →
+    plus (Some 1) (fitting (merge change (without omitted ps) (q ∷ qs))) ≡ fitting (merge change (without omitted (p ∷ ps)) (q ∷ qs))
+passed-other omitted change p q ps qs other less fits =
+    sym (fitting-small p (merge change (without omitted ps) (q ∷ qs)) fits)
+    ∙ ap fitting (sym (merge-greater change p (without omitted ps) q qs less))
+    ∙ ap (λ (ts : List Term). fitting (merge change ts (q ∷ qs))) (sym (without-other omitted p ps other))
 
-pub fit-end : (change : ℤ → ℤ) (left rest : List Term) (all : Bool) → rest ≡ [] → AreSmall left → are_small (merge change left rest) ≡ all → true ≡ all
-fit-end change left rest all none fits so =
-    sym (are_small-all left fits) ∙ ap are_small (sym (merge-nil change left)) ∙ ap (λ (xs : List Term). are_small (merge change left xs)) (sym none) ∙ so
+pub passed-same : (omitted : ℕ) (change : ℤ → ℤ) (p q : Term) (ps qs : List Term) → p.serial ≡ omitted →
+    plus (Some 0) (fitting (merge change (without omitted ps) (q ∷ qs))) ≡ fitting (merge change (without omitted (p ∷ ps)) (q ∷ qs))
+passed-same omitted change p q ps qs same =
+    plus-zero _ ∙ ap (λ (ts : List Term). fitting (merge change ts (q ∷ qs))) (sym (without-same omitted p ps same))
 
-and_true : (a b : Bool) → (a && b) ≡ true → (a ≡ true) × (b ≡ true)
-and_true true b e = (refl, e)
-and_true false b e = absurd cc
+pub alone-other : (omitted : ℕ) (p : Term) (ps : List Term) → p.serial ≢ omitted → IsSmall p → plus (Some 1) (fitting (without omitted ps)) ≡ fitting (without omitted (p ∷ ps))
+alone-other omitted p ps other fits = sym (fitting-small p (without omitted ps) fits) ∙ ap fitting (sym (without-other omitted p ps other))
 
--- no coefficient is too large, or one is
-pub all_small : (ts : List Term) → are_small ts ≡ true → AreSmall ts
-all_small [] e = All-nil IsSmall
-all_small (t ∷ ts) e =
-    let both = and_true (small t.coefficient) (are_small ts) e in
-    All-cons IsSmall t ts (ltb-true (unsigned_abs t.coefficient) (2 ^ 44) both.0) (all_small ts both.1)
+pub alone-same : (omitted : ℕ) (p : Term) (ps : List Term) → p.serial ≡ omitted → plus (Some 0) (fitting (without omitted ps)) ≡ fitting (without omitted (p ∷ ps))
+alone-same omitted p ps same = plus-zero _ ∙ ap fitting (sym (without-same omitted p ps same))
 
-pub large_from : (ts : List Term) → are_small ts ≡ false → HasTooLarge ts
-large_from [] e = absurd cc
-large_from (t ∷ ts) e =
-    elim (cases_lt (unsigned_abs t.coefficient) (2 ^ 44)) [
-      | inl less ↦
-          let rest : are_small ts ≡ false = sym (ap (λ (b : Bool). b && are_small ts) (lt-ltb (unsigned_abs t.coefficient) (2 ^ 44) less)) ∙ e in
-          let w = large_from ts rest in
-          (suc w.0, w.1, omega (arith, w.2), w.3, w.4)
-      | inr le ↦ (0, t, omega arith, refl, le)
+front-decrease : (s : ℕ) (n : ℕ) (ts : List Term) → FrontBelow s ts → SerialsDecrease n ts → SerialsDecrease s ts
+front-decrease s n [] front below = tt
+front-decrease s n (t ∷ ts) front below = (front, below.1)
+
+decrease-front : (s : ℕ) (ts : List Term) → SerialsDecrease s ts → FrontBelow s ts
+decrease-front s [] below = tt
+decrease-front s (t ∷ ts) below = below.0
+
+front-without : (omitted s n : ℕ) (ts : List Term) → FrontBelow s ts → SerialsDecrease n ts → FrontBelow s (without omitted ts)
+front-without omitted s n ts front below = decrease-front s (without omitted ts) (SerialsDecrease-filter _ s ts (front-decrease s n ts front below))
+
+-- a term that the list has not
+pub fit-new : (change : ℤ → ℤ) (q : Term) (left : List Term) (m : ℤ) (count : Option ℕ) → FrontBelow q.serial left → AreTerms left → m ≡ change q.coefficient →
+    ((s : ℕ) (rest : List Term) → plus count (fitting rest) ≡ fitting (kept 1343 s m rest)) →
+    (omitted : ℕ) (qs : List Term) → plus count (fitting (merge change (without omitted left) qs)) ≡ fitting (merge change (without omitted left) (q ∷ qs))
+fit-new change q left m count front are is counted omitted qs =
+    counted q.serial (merge change (without omitted left) qs)
+    ∙ ap (λ (x : ℤ). fitting (kept 1343 q.serial x (merge change (without omitted left) qs))) is
+    ∙ ap fitting (sym (merge-new change (without omitted left) q qs (front-without omitted q.serial (2 ^ 32) left front are.serials)))
+
+-- a term that the list has
+pub fit-same : (change : ℤ → ℤ) (q : Term) (left : List Term) (c m : ℤ) (count : Option ℕ) → left ≡ record { serial = q.serial; coefficient = c } ∷ drop 1 left → m ≡ c +ℤ change q.coefficient →
+    ((s : ℕ) (rest : List Term) → plus count (fitting rest) ≡ fitting (kept 2685 s m rest)) →
+    (omitted : ℕ) (qs : List Term) → q.serial ≢ omitted → plus count (fitting (merge change (without omitted (drop 1 left)) qs)) ≡ fitting (merge change (without omitted left) (q ∷ qs))
+fit-same change q left c m count is sum counted omitted qs other =
+    let p : Term = record { serial = q.serial; coefficient = c } in
+    counted q.serial (merge change (without omitted (drop 1 left)) qs)
+    ∙ ap (λ (x : ℤ). fitting (kept 2685 q.serial x (merge change (without omitted (drop 1 left)) qs))) sum
+    ∙ ap fitting (sym (merge-same change p (without omitted (drop 1 left)) q qs refl))
+    ∙ ap (λ (ts : List Term). fitting (merge change ts (q ∷ qs))) (sym (without-other omitted p (drop 1 left) other))
+    ∙ ap (λ (ts : List Term). fitting (merge change (without omitted ts) (q ∷ qs))) (sym is)
+
+-- 1 for a term that stays, 0 for that of the unknown which is left out
+passed_is : (omitted : ℕ) (change : ℤ → ℤ) (p q : Term) (ps qs : List Term) → q.serial < p.serial → IsSmall p →
+    plus (Some (cond (eqb p.serial omitted) 0 1)) (fitting (merge change (without omitted ps) (q ∷ qs))) ≡ fitting (merge change (without omitted (p ∷ ps)) (q ∷ qs))
+passed_is omitted change p q ps qs less fits =
+    elim (cases_eq p.serial omitted) [
+      | inl same ↦
+          ap (λ (b : Bool). plus (Some (cond b 0 1)) (fitting (merge change (without omitted ps) (q ∷ qs)))) (eq-eqb p.serial omitted same)
+          ∙ passed-same omitted change p q ps qs same
+      | inr other ↦
+          ap (λ (b : Bool). plus (Some (cond b 0 1)) (fitting (merge change (without omitted ps) (q ∷ qs)))) (ne_eqb p.serial omitted other)
+          ∙ passed-other omitted change p q ps qs other less fits
     ]
 
-pub too_large_exactly : (ts : List Term) (all : Bool) → all ≡ are_small ts → (all ≡ false) ↔ HasTooLarge ts
-too_large_exactly ts all is = (
-  λ e. large_from ts (sym is ∙ e),
-  λ w.
-      elim all as (λ b. all ≡ b → all ≡ false) [
-        | true ↦ λ e.
-            let small = all_small ts (sym is ∙ e) w.0 w.1 w.2 in
-            let here = rw (w.3) at small in
-            absurd (omega (arith, here, w.4))
-        | false ↦ λ e. e
-      ] refl,
-)
+alone_is : (omitted : ℕ) (p : Term) (ps : List Term) → IsSmall p → plus (Some (cond (eqb p.serial omitted) 0 1)) (fitting (without omitted ps)) ≡ fitting (without omitted (p ∷ ps))
+alone_is omitted p ps fits =
+    elim (cases_eq p.serial omitted) [
+      | inl same ↦ ap (λ (b : Bool). plus (Some (cond b 0 1)) (fitting (without omitted ps))) (eq-eqb p.serial omitted same) ∙ alone-same omitted p ps same
+      | inr other ↦ ap (λ (b : Bool). plus (Some (cond b 0 1)) (fitting (without omitted ps))) (ne_eqb p.serial omitted other) ∙ alone-other omitted p ps other fits
+    ]
+
+-- one more term is passed
+pub skip-one : (omitted : ℕ) (change : ℤ → ℤ) (left : List Term) (p q : Term) (qs : List Term) (count one : ℕ) (whole : Option ℕ) → left ≡ p ∷ drop 1 left → q.serial < p.serial → AreTerms left →
+    one ≡ cond (eqb p.serial omitted) 0 1 → plus (Some count) (fitting (merge change (without omitted left) (q ∷ qs))) ≡ whole →
+    plus (Some (count + one)) (fitting (merge change (without omitted (drop 1 left)) (q ∷ qs))) ≡ whole
+skip-one omitted change left p q qs count one whole is less are one_is so_far =
+    plus-assoc (Some count) (Some one) (fitting (merge change (without omitted (drop 1 left)) (q ∷ qs)))
+    ∙ ap (λ (n : ℕ). plus (Some count) (plus (Some n) (fitting (merge change (without omitted (drop 1 left)) (q ∷ qs))))) one_is
+    ∙ ap (plus (Some count)) (passed_is omitted change p q (drop 1 left) qs less (first-small p left is are))
+    ∙ ap (λ (ts : List Term). plus (Some count) (fitting (merge change (without omitted ts) (q ∷ qs)))) (sym is)
+    ∙ so_far
+
+pub count-one : (omitted : ℕ) (left : List Term) (p : Term) (count one : ℕ) (whole : Option ℕ) → left ≡ p ∷ drop 1 left → AreTerms left →
+    one ≡ cond (eqb p.serial omitted) 0 1 → plus (Some count) (fitting (without omitted left)) ≡ whole → plus (Some (count + one)) (fitting (without omitted (drop 1 left))) ≡ whole
+count-one omitted left p count one whole is are one_is so_far =
+    plus-assoc (Some count) (Some one) (fitting (without omitted (drop 1 left)))
+    ∙ ap (λ (n : ℕ). plus (Some count) (plus (Some n) (fitting (without omitted (drop 1 left))))) one_is
+    ∙ ap (plus (Some count)) (alone_is omitted p (drop 1 left) (first-small p left is are))
+    ∙ ap (λ (ts : List Term). plus (Some count) (fitting (without omitted ts))) (sym is)
+    ∙ so_far
+
+-- none of the others is left
+pub fit-end : (change : ℤ → ℤ) (left rest : List Term) (count n : ℕ) (whole : Option ℕ) → rest ≡ [] → Some n ≡ fitting left → plus (Some count) (fitting (merge change left rest)) ≡ whole → Some (count + n) ≡ whole
+fit-end change left rest count n whole none is so_far =
+    ap (plus (Some count)) is
+    ∙ ap (λ (ts : List Term). plus (Some count) (fitting ts)) (sym (merge-nil change left))
+    ∙ ap (λ (ts : List Term). plus (Some count) (fitting (merge change left ts))) (sym none)
+    ∙ so_far
+
+-- the terms fit, or one is too large
+pub fits-or_not : (ts : List Term) → (n : Option ℕ) → n ≡ fitting ts → ((n ≡ None) × HasTooLarge ts) ⊎ ((n ≡ Some (length ts)) × AreSmall ts)
+fits-or_not [] n is = inr (is, All-nil IsSmall)
+fits-or_not (t ∷ ts) n is =
+    elim (cases_lt (unsigned_abs t.coefficient) (2 ^ 44)) [
+      | inl less ↦
+          let here : n ≡ plus (Some 1) (fitting ts) = is ∙ fitting-small t ts less in
+          elim (fits-or_not ts (fitting ts) refl) [
+            | inl none ↦ inl (here ∙ ap (plus (Some 1)) none.0, let w = none.1 in (suc w.0, w.1, omega (arith, w.2), w.3, w.4))
+            | inr some ↦ inr (here ∙ ap (plus (Some 1)) some.0 ∙ ap (λ (x : ℕ). Some x) (omega arith), All-cons IsSmall t ts less some.1)
+          ]
+      | inr le ↦ inl (is ∙ ap (λ (b : Bool). plus (cond b (Some 1) None) (fitting ts)) (le-ltb (unsigned_abs t.coefficient) (2 ^ 44) le), (0, t, omega arith, refl, le))
+    ]
+
+-- no coefficient is too large, or one is
+pub not_large : (ts : List Term) → ¬ HasTooLarge ts → AreSmall ts
+not_large ts none =
+    elim (fits-or_not ts (fitting ts) refl) [ inl some ↦ absurd (none some.1) | inr small ↦ small.1 ]
+
+pub none_exactly : (ts : List Term) (n : Option ℕ) → n ≡ fitting ts → IsNone n ↔ HasTooLarge ts
+none_exactly ts n is =
+    elim (fits-or_not ts n is) as (λ _. IsNone n ↔ HasTooLarge ts) [
+      | inl some ↦ (λ _. some.1, λ _. subst (λ (x : Option ℕ). IsNone x) (sym some.0) refl)
+      | inr small ↦ (
+        λ e. absurd (let none : IsNone (Some (length ts)) = subst (λ (x : Option ℕ). IsNone x) small.0 e in cc),
+        λ w. absurd (let less = small.1 w.0 w.1 w.2 in let less' = rw (w.3) at less in omega (arith, less', w.4)),
+      )
+    ]
+
+pub length_exactly : (ts : List Term) (n : Option ℕ) → n ≡ fitting ts → IfSome n (λ k. k ≡ length ts)
+length_exactly ts n is =
+    elim (fits-or_not ts n is) [
+      | inl none ↦ subst (λ (x : Option ℕ). IfSome x (λ k. k ≡ length ts)) (sym none.0) tt
+      | inr small ↦ subst (λ (x : Option ℕ). IfSome x (λ k. k ≡ length ts)) (sym small.0) refl
+    ]
 
 -- terms in order whose coefficients are small are those of a form
-pub AreTerms-small : (ts : List Term) → AreOrdered ts → are_small ts ≡ true → AreTerms ts
+pub AreTerms-small : (ts : List Term) → AreOrdered ts → AreSmall ts → AreTerms ts
 AreTerms-small ts ordered small = record {
   serials = ordered.serials;
-  coefficients = λ k d lt. (ordered.nonzero k d lt, all_small ts small k d lt);
+  coefficients = λ k d lt. (ordered.nonzero k d lt, small k d lt);
 }

@@ -158,7 +158,7 @@ module _ (change : ℤ → ℤ) where
     nonzero = nonzero-sum_terms ps qs (λ k d lt. (left.coefficients k d lt).0);
   }
 
-SerialsDecrease-filter : (keep : Term → Bool) (n : ℕ) (ts : List Term) → SerialsDecrease n ts → SerialsDecrease n (filter keep ts)
+pub SerialsDecrease-filter : (keep : Term → Bool) (n : ℕ) (ts : List Term) → SerialsDecrease n ts → SerialsDecrease n (filter keep ts)
 SerialsDecrease-filter keep n [] below = tt
 SerialsDecrease-filter keep n (t ∷ ts) below =
     let rest = SerialsDecrease-filter keep t.serial ts below.1 in

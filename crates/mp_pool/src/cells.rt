@@ -119,7 +119,8 @@ impl Cells {
     /// The terms of a chain.
     pub fn read(&self, chain: usize) -> TermsOf<'_>
         requires { chain < length self.now }
-        ensures { result ≡ chain_of self.now chain }
+        ensures same { result ≡ chain_of self.now chain }
+        ensures few { length result < 2 ^ 32 }
     {
         let ends = self.chains[chain];
         TermsOf::of(&self.cells, ends.first, ends.length)

@@ -1,27 +1,42 @@
-//! Whether a merge stays in range, found before anything is written.
+//! Whether a sum of terms stays in range, and how many terms it has, found before anything is written.
 
-ghost use Rattle.std.specs.Prelude.{◌≡◌, ◌<◌, ◌≤◌, ◌+◌, ◌^◌, ◌∷◌, ◌&&◌, [], List, length, drop, ℤ, unsigned_abs, IsNone, IfSome};
+ghost use Rattle.std.specs.Prelude.{◌≡◌, ◌≢◌, ◌<◌, ◌≤◌, ◌+◌, ◌^◌, ◌∷◌, [], ℕ, Some, List, All, length, drop, ℤ, unsigned_abs, cond, nat_eq, IsNone, IfSome};
 ghost use Rattle.mp_pool.specs.declared.Term.{Term};
 ghost use Rattle.mp_pool.specs.Ratios.{times_fraction};
-ghost use Rattle.mp_pool.specs.Storage.Merge.{merge, are_small, small, IsSmall, AreSmall, FrontAtMost, FrontBelow};
+ghost use Rattle.mp_pool.specs.Terms.{without, AreTerms};
+ghost use Rattle.mp_pool.specs.Storage.Merge.{merge, kept, plus, fitting, IsSmall, AreSmall, FrontAtMost, FrontBelow};
 
-use crate::merge::{product, sum};
+use crate::merge::{LEAST_JOINT, LEAST_LONE, product, sum};
 use crate::{Term, TermsOf};
 
-/// Passes the terms of greater serial.
-fn skip(left: &mut TermsOf<'_>, serial: u32)
-    requires small { AreSmall left.old }
-    ensures small { AreSmall left.new }
+/// Passes the terms of greater serial, and counts them, but for that of the unknown which is left out.
+fn skip(left: &mut TermsOf<'_>, omitted: u32, serial: u32) -> usize
+    requires terms { AreTerms left.old }
+    requires few { length left.old < 2 ^ 32 }
+    ensures terms { AreTerms left.new }
     ensures front { FrontAtMost serial left.new }
+    ensures fewer { result + length left.new ≤ length left.old }
     ensures same { (change : ℤ → ℤ) (q : Term) (qs : List Term) → q.serial ≡ serial →
-        are_small (merge change left.new (q ∷ qs)) ≡ are_small (merge change left.old (q ∷ qs)) }
+        plus (Some result) (fitting (merge change (without omitted left.new) (q ∷ qs)))
+        ≡ fitting (merge change (without omitted left.old) (q ∷ qs)) }
 {
+    let mut count = 0;
     'skipping: while let Some(p) = left.peek() {
         if p.serial <= serial {
             break 'skipping;
         }
         left.step();
+        count += stays(p.serial, omitted);
     }
+    count
+}
+
+/// 1 for a term that stays, and 0 for that of the unknown which is left out.
+fn stays(serial: u32, omitted: u32) -> usize
+    ensures exact { result ≡ cond (nat_eq serial omitted) 0 1 }
+    ensures bounded { result ≤ 1 }
+{
+    usize::from(serial != omitted)
 }
 
 /// The first coefficient, where the first serial is this one.
@@ -36,39 +51,74 @@ fn coefficient_of(left: &TermsOf<'_>, serial: u32) -> Option<i64>
     }
 }
 
-/// The coefficient that one term of the other list gives, and what is left.
-fn next_coefficient(left: &mut TermsOf<'_>, f: i64, q: Term) -> i64
+/// 1 for a coefficient that stays, 0 for one that is dropped, and none for one that is too large.
+fn count_of(least: u64, coefficient: i64) -> Option<usize>
+    requires { least < 2 ^ 44 }
+    ensures same { (s : ℕ) (rest : List Term) → plus result (fitting rest) ≡ fitting (kept least s coefficient rest) }
+    ensures bounded { IfSome result (λ n. n ≤ 1) }
+{
+    let magnitude = coefficient.unsigned_abs();
+    if magnitude >= 1 << 44 {
+        None
+    } else if magnitude >= least {
+        Some(1)
+    } else {
+        Some(0)
+    }
+}
+
+/// How many terms one term of the others leaves; none where its coefficient is too large.
+fn next_count(left: &mut TermsOf<'_>, f: i64, q: Term) -> Option<usize>
     requires front { FrontAtMost q.serial left.old }
-    requires small { AreSmall left.old }
+    requires terms { AreTerms left.old }
     requires small_f { unsigned_abs f < 2 ^ 44 }
     requires small_q { IsSmall q }
-    ensures small { AreSmall left.new }
-    ensures same { (qs : List Term) → are_small (merge (times_fraction f) left.old (q ∷ qs)) ≡ (small result && are_small (merge (times_fraction f) left.new qs)) }
+    ensures terms { AreTerms left.new }
+    ensures fewer { length left.new ≤ length left.old }
+    ensures bounded { IfSome result (λ n. n ≤ 1) }
+    ensures same { (omitted : ℕ) (qs : List Term) → q.serial ≢ omitted →
+        plus result (fitting (merge (times_fraction f) (without omitted left.new) qs))
+        ≡ fitting (merge (times_fraction f) (without omitted left.old) (q ∷ qs)) }
 {
     let more = product(f, q.coefficient);
     match coefficient_of(left, q.serial) {
         Some(c) => {
             left.step();
-            sum(c, more)
+            count_of(LEAST_JOINT, sum(c, more))
         }
-        None => more,
+        None => count_of(LEAST_LONE, more),
     }
 }
 
-/// Whether each coefficient of left + f * right is below 2^44.
-pub fn fits(left: &mut TermsOf<'_>, f: i64, right: &mut TermsOf<'_>) -> bool
-    requires small { AreSmall left.old }
-    requires small_f { unsigned_abs f < 2 ^ 44 }
-    requires small_right { AreSmall right.old }
-    ensures { result ≡ are_small (merge (times_fraction f) left.old right.old) }
+/// The number of the terms that are left.
+fn rest_count(left: &mut TermsOf<'_>, omitted: u32) -> usize
+    requires terms { AreTerms left.old }
+    requires few { length left.old < 2 ^ 32 }
+    ensures exact { Some result ≡ fitting (without omitted left.old) }
+    ensures bounded { result ≤ length left.old }
 {
-    'fitting: while let Some(q) = right.peek() {
-        skip(left, q.serial);
-        let coefficient = next_coefficient(left, f, q);
-        if coefficient.unsigned_abs() >= 1 << 44 {
-            return false;
-        }
-        right.step();
+    let mut count = 0;
+    'counting: while let Some(p) = left.peek() {
+        left.step();
+        count += stays(p.serial, omitted);
     }
-    true
+    count
+}
+
+/// The number of terms of left + f * right, where the term of one unknown is left out on the left; none where a
+/// coefficient is too large.
+pub fn fits(left: &mut TermsOf<'_>, omitted: u32, f: i64, right: &[Term]) -> Option<usize>
+    requires terms { AreTerms left.old }
+    requires few { length left.old < 2 ^ 32 }
+    requires small_f { unsigned_abs f < 2 ^ 44 }
+    requires small_right { AreSmall right.now }
+    requires others { All (λ q. q.serial ≢ omitted) right.now }
+    ensures { result ≡ fitting (merge (times_fraction f) (without omitted left.old) right.now) }
+{
+    let mut count = 0;
+    'fitting: for q in right {
+        count += skip(left, omitted, q.serial);
+        count += next_count(left, f, *q)?;
+    }
+    Some(count + rest_count(left, omitted))
 }

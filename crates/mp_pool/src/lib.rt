@@ -17,7 +17,7 @@ mod room;
 mod splice;
 
 pub use list::List;
-pub use pool::{Pool, TooLarge};
+pub use pool::Pool;
 pub use ratio::Ratio;
 pub use read::TermsOf;
 

@@ -1,4 +1,4 @@
-//! A sorted merge in location, by cells that go from chain to chain.
+//! A sorted merge in place, by cells that go from chain to chain.
 ghost use Rattle.std.specs.Prelude.{◌≡◌, ◌≢◌, ◌<◌, ◌≤◌, ◌+◌, ◌^◌, ◌++◌, ◌∷◌, List, take, drop, length, unsigned_abs, ℤ, ◌+ℤ◌, IsNone, IfSome};
 ghost use Rattle.mp_pool.specs.declared.Term.{Term};
 ghost use Rattle.mp_pool.specs.Ratios.{times_fraction};
@@ -6,9 +6,14 @@ ghost use Rattle.mp_pool.specs.Storage.Chains.{chain_of};
 ghost use Rattle.mp_pool.specs.Storage.Frames.{OnlyTwo, OnlyThree, AreThree};
 ghost use Rattle.mp_pool.specs.Storage.Merge.{merge, kept, IsSmall, AreSmall, FrontAtMost, FrontBelow};
 
-use crate::Term;
 use crate::cells::Cells;
-use crate::ratio::Ratio;
+use crate::{Ratio, Term};
+
+/// The sum of two coefficients stays from this magnitude on.
+pub const LEAST_JOINT: u64 = 2685;
+
+/// Any other new coefficient stays from this magnitude on.
+pub const LEAST_LONE: u64 = 1343;
 
 /// Moves the cells of greater serial from `left` to `done`.
 pub fn pass(cells: &mut Cells, left: usize, done: usize, serial: u32)
@@ -78,7 +83,7 @@ fn keep_first(cells: &mut Cells, left: usize, done: usize, spare: usize, term: T
     ensures left { chain_of cells.new left ≡ drop 1 (chain_of cells.old left) }
     ensures done { (rest : List Term) → chain_of cells.new done ++ rest ≡ chain_of cells.old done ++ kept 2685 term.serial term.coefficient rest }
 {
-    if term.coefficient.unsigned_abs() < 2685 {
+    if term.coefficient.unsigned_abs() < LEAST_JOINT {
         cells.step(left, spare);
     } else {
         cells.put_first(left, term);
@@ -97,7 +102,7 @@ fn keep_new(cells: &mut Cells, done: usize, spare: usize, term: Term)
     ensures spare { length (chain_of cells.old spare) ≤ length (chain_of cells.new spare) + 1 }
     ensures done { (rest : List Term) → chain_of cells.new done ++ rest ≡ chain_of cells.old done ++ kept 1343 term.serial term.coefficient rest }
 {
-    if term.coefficient.unsigned_abs() >= 1343 {
+    if term.coefficient.unsigned_abs() >= LEAST_LONE {
         cells.put_first(spare, term);
         cells.step(spare, done);
     }

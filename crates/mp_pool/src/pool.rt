@@ -1,20 +1,19 @@
 //! Many lists of terms that share their cells.
 
-ghost use Rattle.std.specs.Prelude.{◌≡◌, ◌≢◌, ◌↔◌, ◌<◌, ◌≤◌, ◌+◌, ◌^◌, ◌++◌, [], ◌∷◌, None, unsigned_abs, option_map, length, IsSome, IsErr, OnOk, OnErr};
+ghost use Rattle.std.specs.Prelude.{◌≡◌, ◌≢◌, ◌↔◌, ◌<◌, ◌≤◌, ◌+◌, ◌^◌, ◌++◌, [], ◌∷◌, None, unsigned_abs, option_map, length, All, IsSome, IsNone, IfSome, OnOk, OnErr};
 ghost use Rattle.mp_pool.specs.Ratios.{times_fraction};
 ghost use Rattle.mp_pool.specs.Terms.{sum_terms, AreTerms, HasTooLarge, without, term_of};
 ghost use Rattle.mp_pool.specs.Pool.{list_in, terms_in, with_list, without_list, used, spare, spare_lists, IsGrown};
 
 use crate::cells::Cells;
-use crate::list::List;
+use crate::fits::fits;
 use crate::lists::{clear, push, remove};
 use crate::room::{add_cell, add_slot};
-use crate::splice::splice;
-use crate::{Term, TermsOf};
+use crate::splice::merge_into;
+use crate::{List, Term, TermsOf};
 use mp_scaled::NoMemory;
 use std::alloc::Global;
 use std::marker::Model;
-use thiserror::Error;
 
 /// A pool, which contracts see as its slots, each free or holding a list of terms, and its size in cells.
 ///
@@ -40,6 +39,9 @@ impl Model for Pool {
     ghost invariant = { λ p. IsPool p.cells p.taken.items p.vacant.items (vec_capacity p.vacant) };
 }
 
+/// Cells and slots are numbered by words of 32 bits, so that there are at most so many of each.
+const NUMBER_LIMIT: usize = (1 << 32) - 1;
+
 impl Pool {
     /// A pool without slots and cells.
     pub fn new(alloc: Global) -> Pool
@@ -54,10 +56,9 @@ impl Pool {
 
     /// Makes more cells and slots, so that so many are spare and free at least.
     ///
-    /// The lists stay as they are. Where memory runs out, more cells and slots may have been made, and nothing else.
+    /// The lists stay as they are. Where memory runs out, more cells and slots may have been made, and nothing else. It
+    /// also counts as want of memory where there would be 2^32 cells or slots.
     pub fn reserve(&mut self, cells: usize, lists: usize) -> Result<(), NoMemory>
-        requires cells { used self.old + cells < 2 ^ 32 }
-        requires lists { length self.old.slots + lists < 2 ^ 32 }
         ensures spare { OnOk result (cells ≤ spare self.new) }
         ensures spare_lists { OnOk result (lists ≤ spare_lists self.new) }
         ensures grown { IsGrown self.old self.new }
@@ -72,21 +73,25 @@ impl Pool {
     }
 
     fn add_cell(&mut self) -> Result<(), NoMemory>
-        requires { self.old.size + 1 < 2 ^ 32 }
         ensures ok { OnOk result (self.new ≡ record self.old { size = self.old.size + 1 }) }
         ensures err { OnErr result (self.new ≡ self.old) }
     {
         let _taken = &self.taken;
+        if self.cells.size() >= NUMBER_LIMIT {
+            return Err(NoMemory);
+        }
         add_cell(&mut self.cells)?;
         Ok(())
     }
 
     fn add_slot(&mut self) -> Result<(), NoMemory>
-        requires { length self.old.slots + 1 < 2 ^ 32 }
         ensures ok { OnOk result (self.new ≡ record self.old { slots = self.old.slots ++ None ∷ [] }) }
         ensures err { OnErr result (self.new ≡ self.old) }
     {
         let slot = self.taken.len();
+        if slot >= NUMBER_LIMIT {
+            return Err(NoMemory);
+        }
         self.taken.reserve(1)?;
         self.vacant.reserve(slot + 1 - self.vacant.len())?;
         add_slot(&mut self.cells)?;
@@ -122,7 +127,9 @@ impl Pool {
     /// The terms of a list, from the greatest serial to the least.
     pub fn read(&self, list: List) -> TermsOf<'_>
         requires { IsSome (list_in self.now list.slot) }
-        ensures { result ≡ terms_in self.now list.slot }
+        ensures same { result ≡ terms_in self.now list.slot }
+        ensures ordered { AreTerms result }
+        ensures few { length result < 2 ^ 32 }
     {
         let _taken = &self.taken;
         self.cells.read(list.chain())
@@ -164,25 +171,35 @@ impl Pool {
         remove(&mut self.cells, list.chain(), serial)
     }
 
-    /// Adds `f` times another list to a list, where `f` is in units of 2^-28; small terms are dropped as in a sum of
-    /// forms. Where a coefficient would come out too large, that is answered and nothing is done.
-    pub fn splice_add(&mut self, list: List, f: i64, other: List) -> Result<(), TooLarge>
-        requires list { IsSome (list_in self.old list.slot) }
-        requires other { IsSome (list_in self.old other.slot) }
-        requires apart { list.slot ≢ other.slot }
-        requires spare { length (terms_in self.old other.slot) ≤ spare self.old }
+    /// The number of terms that a list would have, where the term of an unknown is left out and `f` times other terms
+    /// are added, in units of 2^-28; none where a coefficient would come out too large. Small terms are dropped as in a
+    /// sum of forms.
+    pub fn fits(&self, list: List, serial: u32, f: i64, terms: &[Term]) -> Option<usize>
+        requires list { IsSome (list_in self.now list.slot) }
+        requires terms { AreTerms terms.now }
+        requires others { All (λ t. t.serial ≢ serial) terms.now }
         requires small { unsigned_abs f < 2 ^ 44 }
-        ensures too_large { IsErr result
-            ↔ HasTooLarge (sum_terms (times_fraction f) (terms_in self.old list.slot) (terms_in self.old other.slot)) }
-        ensures ok { OnOk result (self.new ≡ with_list self.old list.slot
-            (sum_terms (times_fraction f) (terms_in self.old list.slot) (terms_in self.old other.slot))) }
-        ensures err { OnErr result (self.new ≡ self.old) }
+        ensures too_large { IsNone result
+            ↔ HasTooLarge (sum_terms (times_fraction f) (without serial (terms_in self.now list.slot)) terms.now) }
+        ensures count { IfSome result (λ n. n
+            ≡ length (sum_terms (times_fraction f) (without serial (terms_in self.now list.slot)) terms.now)) }
+    {
+        fits(&mut self.read(list), serial, f, terms)
+    }
+
+    /// Adds `f` times other terms to a list, where `f` is in units of 2^-28 and no coefficient comes out too large; small
+    /// terms are dropped as in a sum of forms.
+    pub fn splice_add(&mut self, list: List, f: i64, terms: &[Term])
+        requires list { IsSome (list_in self.old list.slot) }
+        requires terms { AreTerms terms.now }
+        requires spare { length terms.now ≤ spare self.old }
+        requires small { unsigned_abs f < 2 ^ 44 }
+        requires fits { ¬ HasTooLarge (sum_terms (times_fraction f) (terms_in self.old list.slot) terms.now) }
+        ensures { self.new ≡ with_list self.old list.slot
+            (sum_terms (times_fraction f) (terms_in self.old list.slot) terms.now) }
     {
         let _taken = &self.taken;
-        if !splice(&mut self.cells, list.chain(), other.chain(), f) {
-            return Err(TooLarge);
-        }
-        Ok(())
+        merge_into(&mut self.cells, list.chain(), f, terms);
     }
 
     /// Gives a list up: its cells are spare, and its slot is free.
@@ -195,8 +212,3 @@ impl Pool {
         self.vacant.push_reserved(list.slot);
     }
 }
-
-/// A coefficient would reach a magnitude of 2^44 units.
-#[derive(Clone, Copy, Debug, PartialEq, Eq, Drop, Error)]
-#[error("coefficient too large")]
-pub struct TooLarge;

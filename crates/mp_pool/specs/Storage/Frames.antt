@@ -21,18 +21,10 @@ pub record AreThree (n a b d : ℕ) : Type 0 where
   pub ad : a ≢ d
   pub bd : b ≢ d
 
--- a merge that goes on: lists from chain 3 on, cells enough
-pub record Merging (chains : List (List Term)) (left right : ℕ) : Type 0 where
+-- a merge of other terms into a list, with cells enough
+pub record Merging (chains : List (List Term)) (left : ℕ) (right : List Term) : Type 0 where
   pub left_in : left < length chains
-  pub right_in : right < length chains
   pub left_from : 3 ≤ left
-  pub right_from : 3 ≤ right
-  pub apart : left ≢ right
-  pub spare : length (chain_of chains right) ≤ length (chain_of chains 0)
+  pub spare : length right ≤ length (chain_of chains 0)
   pub small : AreSmall (chain_of chains left)
-  pub small_right : AreSmall (chain_of chains right)
-
--- the other lists stay, and their number
-pub record Elsewhere (old new : List (List Term)) (left right : ℕ) : Type 0 where
-  pub count : length new ≡ length old
-  pub others : (k : ℕ) → 3 ≤ k → k ≢ left → k ≢ right → chain_of new k ≡ chain_of old k
+  pub small_right : AreSmall right

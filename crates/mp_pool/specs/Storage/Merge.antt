@@ -1,4 +1,4 @@
-use Rattle.std.specs.Prelude.{ℕ, ◌<◌, ◌≤◌, ◌^◌, ℤ, ◌+ℤ◌, unsigned_abs, Bool, true, ◌&&◌, nat_lt, nat_eq, cond, List, [], ◌∷◌}
+use Rattle.std.specs.Prelude.{ℕ, ◌<◌, ◌≤◌, ◌^◌, ℤ, ◌+ℤ◌, unsigned_abs, ◌+◌, nat_lt, nat_eq, cond, Option, Some, None, List, [], ◌∷◌}
 use Rattle.std.specs.List.{All}
 use Rattle.mp_pool.specs.declared.Term.{Term}
 
@@ -39,10 +39,13 @@ abbrev pub FrontBelow : ℕ → List Term → Type 0
 FrontBelow s [] = Unit {0}
 FrontBelow s (t ∷ ts) = t.serial < s
 
-abbrev pub small : ℤ → Bool
-small c = nat_lt (unsigned_abs c) (2 ^ 44)
+-- two numbers of terms together, where both are there
+abbrev pub plus : Option ℕ → Option ℕ → Option ℕ
+plus None n = None
+plus (Some m) None = None
+plus (Some m) (Some n) = Some (m + n)
 
--- each coefficient is below 2^44
-abbrev pub are_small : List Term → Bool
-are_small [] = true
-are_small (t ∷ ts) = small t.coefficient && are_small ts
+-- the number of terms; none where a coefficient is 2^44 or more
+abbrev pub fitting : List Term → Option ℕ
+fitting [] = Some 0
+fitting (t ∷ ts) = plus (cond (nat_lt (unsigned_abs t.coefficient) (2 ^ 44)) (Some 1) None) (fitting ts)

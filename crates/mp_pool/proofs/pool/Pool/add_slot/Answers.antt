@@ -7,7 +7,7 @@ pub overflow_cast-slot : goal.overflow_cast-slot
 overflow_cast-slot c =
     let same = ap (λ p. length p.slots) c.self.view_is in
     let long = length-slots_from c.self.inside.cells 3 c.self.inside.taken.items in
-    omega (arith, same, long, c.requires, c.len-slot.ensures, c.self.inside.taken.ok.0)
+    omega (arith, same, long, c.if-slot-ge-NUMBER_LIMIT.false, c.len-slot.ensures, c.self.inside.taken.ok.0)
 
 pub invariant_of-self-2 : goal.invariant_of-self-2
 invariant_of-self-2 c =
@@ -21,7 +21,7 @@ invariant_of-self-2 c =
     let taken_is : c.push_reserved.new.self.items ≡ taken ++ false ∷ [] = c.push_reserved.ensures.items ∙ ap (λ (bs : List Bool). bs ++ false ∷ []) c.reserve.ensures.items in
     let vacant_is : c.push_reserved-2.new.self.items ≡ vacant ++ length taken ∷ [] = c.push_reserved-2.ensures.items ∙ ap (λ (ks : List ℕ). ks ++ c.len-slot.result ∷ []) c.reserve-2.ensures.items ∙ ap (λ (k : ℕ). vacant ++ k ∷ []) slot in
     let now = IsPool-listed cells made.mid c.add_slot.new.cells taken vacant _ c.self.invariant made.three made.longer made.shorter made.same made.more in
-    rw (taken_is, vacant_is) (now _ (omega (arith, slot, c.len.ensures, (c.in_ok-reserve-2.ensures {u = tt}).ok, c.push_reserved-2.ensures.capacity)) (omega (arith, seen, long, c.requires)))
+    rw (taken_is, vacant_is) (now _ (omega (arith, slot, c.len.ensures, (c.in_ok-reserve-2.ensures {u = tt}).ok, c.push_reserved-2.ensures.capacity)) (omega (arith, slot, c.if-slot-ge-NUMBER_LIMIT.false)))
 
 pub returns-clause-ok : goal.returns-clause-ok
 returns-clause-ok c =
