@@ -5,9 +5,9 @@ use Rattle.std.specs.Option.{option_map}
 use Rattle.std.proofs.lemmas.List.{length-map, length-set}
 use Rattle.std.proofs.lemmas.List.Elements.{All-map, All-set, All-weaker}
 use Rattle.mp_pool.specs.declared.Term.{Term}
-use Rattle.mp_forms.specs.Ratios.{times_fraction}
+use Rattle.mp_pool.specs.Ratios.{times_fraction}
 use Rattle.mp_forms.specs.Forms.{LinearForm}
-use Rattle.mp_forms.specs.Terms.{AreTerms}
+use Rattle.mp_pool.specs.Terms.{AreTerms}
 use Rattle.mp_solver.specs.Reduction.{reduce_of}
 use Rattle.mp_solver.specs.Replay.{Event, Equation}
 use Rattle.mp_solver.specs.States.{States, Unknowns}

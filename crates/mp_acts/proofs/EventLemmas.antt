@@ -12,7 +12,7 @@ use Rattle.mp_solver.specs.Reduction.{reduce_of}
 use Rattle.mp_solver.specs.Elimination.{forms_in, eliminate}
 use Rattle.mp_solver.specs.Replay as event
 use Rattle.mp_solver.specs.Replay.{Event, after, after_residual, replay, is_fresh, is_equation, unknowns_made, equations_accepted, IsMadeBy, new, fresh, unname, equate}
-use Rattle.mp_forms.specs.Terms.{AreTerms}
+use Rattle.mp_pool.specs.Terms.{AreTerms}
 use Rattle.mp_forms.specs.Forms.{LinearForm}
 use Rattle.mp_acts.specs.Events.{event_of, adds, IsMadeWith, AreMadeBy, AreEventsOf}
 use Rattle.mp_acts.specs.Variables.{is_unknown, without_name, without_names}

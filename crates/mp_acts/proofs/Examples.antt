@@ -5,7 +5,7 @@ use Rattle.std.specs.Fmt.{digits}
 use Rattle.mp_scaled.specs.Print.{digits_within}
 use Rattle.mp_pool.specs.declared.Term.{Term}
 use Rattle.mp_forms.specs.Forms.{LinearForm}
-use Rattle.mp_forms.specs.Terms.{with_term, sum_terms}
+use Rattle.mp_pool.specs.Terms.{with_term, sum_terms}
 use Rattle.mp_report.specs.declared.error.SourceError.TheVariants as error
 use Rattle.mp_solver.specs.States.{Unknowns}
 use Rattle.mp_solver.specs.Replay.{Fresh, Equation, replay}

@@ -11,8 +11,8 @@ use Rattle.std.proofs.lemmas.List.Elements.{All-nil, All-cons}
 use Rattle.mp_pool.specs.declared.Term.{Term}
 use Rattle.mp_forms.specs.declared.fault.FormFault.{FormFault}
 use Rattle.mp_forms.specs.declared.fault.FormFault.TheVariants.{Overflow, CoefficientTooLarge, DivisionByZero}
-use Rattle.mp_forms.specs.Ratios.{times_fraction, times_scaled, over_scaled}
-use Rattle.mp_forms.specs.Terms.{joint_term, lone_term, changed_terms, with_term, sum_terms, is_too_large}
+use Rattle.mp_pool.specs.Ratios.{times_fraction, times_scaled, over_scaled}
+use Rattle.mp_pool.specs.Terms.{joint_term, lone_term, changed_terms, with_term, sum_terms, is_too_large}
 use Rattle.mp_forms.specs.Forms.{LinearForm, within_limits, changed_form, sum_of, form_times_scaled, form_over_scaled}
 use Rattle.mp_solver.specs.States.{States, form_of, IsOver}
 use Rattle.mp_solver.specs.Reduction.{independent_part, with_form, with_term_of, reduce_of}

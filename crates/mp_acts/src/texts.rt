@@ -2,7 +2,7 @@
 
 ghost use Rattle.std.specs.Prelude.{◌≡◌, ◌≤◌, ◌^◌, ◌∷◌, ◌++◌, codes, decimal, unsigned_abs, All, OnOk, IfOk};
 ghost use Rattle.mp_scaled.specs.Print.{printed};
-ghost use Rattle.mp_forms.specs.Terms.{IsCoefficient};
+ghost use Rattle.mp_pool.specs.Terms.{IsCoefficient};
 ghost use Rattle.mp_values.specs.Outcome.{Gives};
 ghost use Rattle.mp_acts.specs.Counts.{IsWithin, nothing};
 ghost use Rattle.mp_acts.specs.State.{unknown_count, counts};

@@ -1,3 +1,2 @@
-pub mod RatioLemmas
 pub mod TermLemmas
 pub mod LimitLemmas

@@ -8,7 +8,7 @@ use Rattle.std.proofs.lemmas.List.Folds.{list_any_none, Any-from_list_any, list_
 use Rattle.mp_pool.specs.declared.Term.{Term}
 use Rattle.mp_forms.specs.declared.fault.FormFault.{FormFault}
 use Rattle.mp_forms.specs.declared.fault.FormFault.TheVariants.{Overflow, CoefficientTooLarge, DivisionByZero}
-use Rattle.mp_forms.specs.Terms.{is_too_large, AreTerms, HasTooLarge}
+use Rattle.mp_pool.specs.Terms.{is_too_large, AreTerms, HasTooLarge}
 use Rattle.mp_forms.specs.Forms.{LinearForm, within_limits}
 
 HasTooLarge-from_any : (terms : List Term) → list_any is_too_large terms ≡ true → HasTooLarge terms

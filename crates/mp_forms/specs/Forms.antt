@@ -5,8 +5,8 @@ use Rattle.std.specs.List.{list_any}
 use Rattle.mp_pool.specs.declared.Term.{Term}
 use Rattle.mp_forms.specs.declared.fault.FormFault.{FormFault}
 use Rattle.mp_forms.specs.declared.fault.FormFault.TheVariants.{Overflow, CoefficientTooLarge, DivisionByZero}
-use Rattle.mp_forms.specs.Ratios.{times_fraction, times_scaled, over_scaled}
-use Rattle.mp_forms.specs.Terms.{changed_terms, sum_terms, is_too_large}
+use Rattle.mp_pool.specs.Ratios.{times_fraction, times_scaled, over_scaled}
+use Rattle.mp_pool.specs.Terms.{changed_terms, sum_terms, is_too_large}
 
 -- a number in units of 2^-16, and multiples of unknowns
 pub record LinearForm : Type 0 where

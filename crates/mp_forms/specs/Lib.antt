@@ -1,3 +1,1 @@
-pub mod Ratios
-pub mod Terms
 pub mod Forms

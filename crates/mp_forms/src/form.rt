@@ -2,15 +2,14 @@
 
 ghost use Rattle.std.specs.Prelude.{◌≡◌, ◌≢◌, ◌↔◌, ◌<◌, ◌≤◌, ◌^◌, pos, ◌+ℤ◌, unsigned_abs, [], ◌∷◌, ◌++◌, IfOk, IfSome, IsErrOf};
 ghost use Rattle.std.specs.List.{list_any};
-ghost use Rattle.mp_forms.specs.Ratios.{ratio_times, times_fraction, times_scaled, over_scaled};
-ghost use Rattle.mp_forms.specs.Terms.{lone_term, changed_terms, sum_terms, SerialsDecrease, AreTerms, AreOrdered, HasTooLarge, is_too_large};
+ghost use Rattle.mp_pool.specs.Ratios.{ratio_times, times_fraction, times_scaled, over_scaled};
+ghost use Rattle.mp_pool.specs.Terms.{lone_term, changed_terms, sum_terms, SerialsDecrease, AreTerms, AreOrdered, HasTooLarge, is_too_large};
 ghost use Rattle.mp_forms.specs.Forms.{within_limits, changed_form, sum_form, sum_of, form_times_scaled, form_over_scaled};
 
 use crate::FormFault;
-use crate::ratio::{FRACTION_ONE, Ratio};
 use crate::terms::{push_each, stands_before, sum_of_terms, with_first};
-use mp_pool::Term;
-use mp_scaled::NoMemory;
+use mp_pool::{Ratio, Term};
+use mp_scaled::{FRACTION_ONE, NoMemory};
 use std::alloc::Global;
 use std::marker::Model;
 
@@ -25,7 +24,7 @@ pub struct Form {
 }
 
 impl Model for Form {
-    ghost use Rattle.mp_forms.specs.Terms.{AreTerms};
+    ghost use Rattle.mp_pool.specs.Terms.{AreTerms};
     ghost use Rattle.mp_forms.specs.Forms.{LinearForm};
 
     ghost Value = { LinearForm };
@@ -103,7 +102,7 @@ impl Form {
     {
         let term = Term {
             serial,
-            coefficient: FRACTION_ONE,
+            coefficient: i64::from(FRACTION_ONE),
         };
         Ok(Form {
             constant: 0,

@@ -9,7 +9,6 @@
 mod fault;
 mod form;
 mod laws;
-mod ratio;
 mod terms;
 
 pub use fault::FormFault;

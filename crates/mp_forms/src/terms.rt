@@ -1,11 +1,10 @@
 //! Lists of terms, and how they are added.
 
 ghost use Rattle.std.specs.Prelude.{◌≡◌, ◌↔◌, ◌++◌, IfOk, OnOk, IsTrue};
-ghost use Rattle.mp_forms.specs.Ratios.{ratio_times};
-ghost use Rattle.mp_forms.specs.Terms.{term_from, lone_term, changed_terms, sum_terms, SerialsDecrease, AreTerms};
+ghost use Rattle.mp_pool.specs.Ratios.{ratio_times};
+ghost use Rattle.mp_pool.specs.Terms.{term_from, lone_term, changed_terms, sum_terms, SerialsDecrease, AreTerms};
 
-use crate::ratio::Ratio;
-use mp_pool::Term;
+use mp_pool::{Ratio, Term};
 use mp_scaled::NoMemory;
 use std::alloc::Global;
 use std::cmp::Ordering;

@@ -7,8 +7,8 @@ use Rattle.std.proofs.lemmas.List.{length-map, get_or-set_other}
 use Rattle.std.proofs.lemmas.List.Sums.{sum_by-cons}
 use Rattle.std.proofs.lemmas.List.Elements.{All-nil, All-cons, All-head, All-tail, All-weaker, All-filter, All-map}
 use Rattle.mp_pool.specs.declared.Term.{Term}
-use Rattle.mp_forms.specs.Terms.{AreTerms, AreOrdered, StayInOrder, is_too_large, IsCoefficient}
-use Rattle.mp_forms.specs.Ratios.{times_fraction}
+use Rattle.mp_pool.specs.Terms.{AreTerms, AreOrdered, StayInOrder, is_too_large, IsCoefficient}
+use Rattle.mp_pool.specs.Ratios.{times_fraction}
 use Rattle.mp_forms.specs.Forms.{LinearForm}
 use Rattle.mp_solver.specs.States.{States, form_of, IsSerial}
 use Rattle.mp_solver.specs.Elimination.{pivot_of, without, term_of, over_negative, solved_for, replaced, replaced_term, solved_states, forms_in, has_large_coefficient, has_large_constant, term_count}

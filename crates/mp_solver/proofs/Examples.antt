@@ -2,7 +2,7 @@
 use Rattle.std.proofs.Common.{◌≡◌, ℕ, ℤ, List, pos, neg_ℤ, [], ◌∷◌, Some, None, Ok, refl}
 use Rattle.std.specs.Prelude.{codes}
 use Rattle.mp_pool.specs.declared.Term.{Term}
-use Rattle.mp_forms.specs.Terms.{with_term, sum_terms}
+use Rattle.mp_pool.specs.Terms.{with_term, sum_terms}
 use Rattle.mp_forms.specs.Forms.{LinearForm}
 use Rattle.mp_solver.specs.declared.equated.Equated.TheVariants.{Redundant, Inconsistent}
 use Rattle.mp_solver.specs.Reduction.{reduce_of}

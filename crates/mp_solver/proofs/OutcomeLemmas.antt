@@ -3,7 +3,7 @@ use Rattle.std.proofs.Common.{◌≡◌, ◌≢◌, ◌⊎◌, ℕ, ◌+◌, ◌
 use Rattle.std.specs.List.{list_any, fold}
 use Rattle.std.proofs.lemmas.Bool.{ltb-false}
 use Rattle.mp_pool.specs.declared.Term.{Term}
-use Rattle.mp_forms.specs.Terms.{StayInOrder}
+use Rattle.mp_pool.specs.Terms.{StayInOrder}
 use Rattle.mp_forms.specs.Forms.{LinearForm}
 use Rattle.mp_solver.specs.declared.change.Change.{Change}
 use Rattle.mp_solver.specs.declared.equated.Equated.{Equated}

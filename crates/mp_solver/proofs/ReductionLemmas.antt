@@ -6,7 +6,7 @@ use Rattle.std.proofs.lemmas.List.Sums.{fold-append, fold_more}
 use Rattle.std.proofs.lemmas.List.Elements.{All-filter}
 use Rattle.mp_pool.specs.declared.Term.{Term}
 use Rattle.mp_forms.specs.declared.fault.FormFault.{FormFault}
-use Rattle.mp_forms.specs.Terms.{SerialsDecrease, IsCoefficient, AreTerms}
+use Rattle.mp_pool.specs.Terms.{SerialsDecrease, IsCoefficient, AreTerms}
 use Rattle.mp_forms.specs.Forms.{LinearForm, sum_of}
 use Rattle.mp_solver.specs.States.{States, form_of}
 use Rattle.mp_solver.specs.Reduction.{with_form, with_term_of}

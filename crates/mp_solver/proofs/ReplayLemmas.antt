@@ -9,8 +9,8 @@ use Rattle.std.proofs.lemmas.List.Elements.{All-nil, All-weaker}
 use Rattle.mp_pool.specs.declared.Term.{Term}
 use Rattle.mp_forms.specs.declared.fault.FormFault.{FormFault}
 use Rattle.mp_forms.specs.declared.fault.FormFault.TheVariants.{Overflow as ConstantOverflow, CoefficientTooLarge as TooLarge}
-use Rattle.mp_forms.specs.Ratios.{times_fraction}
-use Rattle.mp_forms.specs.Terms.{sum_terms, is_too_large, AreTerms, AreOrdered, StayInOrder}
+use Rattle.mp_pool.specs.Ratios.{times_fraction}
+use Rattle.mp_pool.specs.Terms.{sum_terms, is_too_large, AreTerms, AreOrdered, StayInOrder}
 use Rattle.mp_forms.specs.Forms.{LinearForm, sum_of}
 use Rattle.mp_solver.specs.declared.fresh.Fresh.{Fresh as FreshAnswer}
 use Rattle.mp_solver.specs.declared.fresh.Fresh.TheVariants.{Made, Limit as NoRoom}

@@ -10,8 +10,8 @@ use Rattle.std.proofs.lemmas.List.Elements.{filter_map-append, All-nil, All-cons
 use Rattle.mp_pool.specs.declared.Term.{Term}
 use Rattle.mp_forms.specs.declared.fault.FormFault.{FormFault}
 use Rattle.mp_forms.specs.declared.fault.FormFault.TheVariants.{Overflow, CoefficientTooLarge}
-use Rattle.mp_forms.specs.Ratios.{times_fraction}
-use Rattle.mp_forms.specs.Terms.{sum_terms, is_too_large, AreTerms}
+use Rattle.mp_pool.specs.Ratios.{times_fraction}
+use Rattle.mp_pool.specs.Terms.{sum_terms, is_too_large, AreTerms}
 use Rattle.mp_forms.specs.Forms.{LinearForm, sum_of}
 use Rattle.mp_solver.specs.declared.solution.Solution.{Solution}
 use Rattle.mp_solver.specs.declared.solution.Replacement.{Replacement}

@@ -9,8 +9,8 @@ use Rattle.std.proofs.lemmas.List.Folds.{list_any-append}
 use Rattle.std.proofs.lemmas.List.Elements.{filter_map-append, All-nil, All-cons, All-append}
 use Rattle.mp_pool.specs.declared.Term.{Term}
 use Rattle.mp_forms.specs.declared.fault.FormFault.TheVariants.{Overflow, CoefficientTooLarge}
-use Rattle.mp_forms.specs.Ratios.{times_fraction}
-use Rattle.mp_forms.specs.Terms.{sum_terms, is_too_large}
+use Rattle.mp_pool.specs.Ratios.{times_fraction}
+use Rattle.mp_pool.specs.Terms.{sum_terms, is_too_large}
 use Rattle.mp_forms.specs.Forms.{LinearForm, sum_of}
 use Rattle.mp_solver.specs.declared.solution.Replacement.{Replacement}
 use Rattle.mp_solver.specs.declared.solution.Replacement.TheVariants.{Absent, Changed, Overflows, TooLarge}

@@ -8,7 +8,7 @@ use Rattle.std.proofs.lemmas.List.{flat_map_more, take_more, take-append-drop}
 use Rattle.std.proofs.lemmas.List.Elements.{All-nil, All-cons, All-head, All-tail, All-append}
 use Rattle.std.proofs.lemmas.List.Folds.{find-append}
 use Rattle.mp_pool.specs.declared.Term.{Term}
-use Rattle.mp_forms.specs.Terms.{joint_term, lone_term, changed_terms, with_term, sum_terms, AreTerms, StayInOrder}
+use Rattle.mp_pool.specs.Terms.{joint_term, lone_term, changed_terms, with_term, sum_terms, AreTerms, StayInOrder}
 use Rattle.mp_solver.specs.Elimination.{outranks, pivot_of, without, term_of, over_negative}
 use Rattle.mp_solver.proofs.QuotientLemmas.{over_negative_small}
 

@@ -1,10 +1,11 @@
 -- One equation, in a form that was brought up to date and is to be 0: which unknown it makes dependent, and on what.
 -- After Knuth, METAFONT: The Program, part 28 (linear_eq); the rule at a tie, the threshold and the refusals are this project's own.
-use Rattle.std.specs.Prelude.{◌≡◌, ◌≤◌, ◌<◌, ℕ, ◌-◌, ◌^◌, ℤ, pos, neg_ℤ, ◌+ℤ◌, unsigned_abs, List, [], ◌∷◌, Option, Some, None, Bool, not, cond, nat_eq, nat_lt, nat_le, map, filter, find, filter_map, option_map, sum_by, length, slice_set, Any, IsSomeAnd}
+use Rattle.std.specs.Prelude.{◌≡◌, ◌≤◌, ◌<◌, ℕ, ◌-◌, ◌^◌, ℤ, pos, neg_ℤ, ◌+ℤ◌, unsigned_abs, List, [], ◌∷◌, Option, Some, None, Bool, cond, nat_lt, nat_le, map, filter_map, option_map, sum_by, length, slice_set, Any, IsSomeAnd}
 use Rattle.std.specs.List.{list_any, best_of}
 use Rattle.mp_pool.specs.declared.Term.{Term}
-use Rattle.mp_forms.specs.Ratios.{ratio_times, times_fraction}
-use Rattle.mp_forms.specs.Terms.{changed_terms, sum_terms, is_too_large, HasTooLarge}
+use Rattle.mp_pool.specs.Ratios.{ratio_times, times_fraction}
+pub use Rattle.mp_pool.specs.Terms.{without, term_of}
+use Rattle.mp_pool.specs.Terms.{changed_terms, sum_terms, is_too_large, HasTooLarge}
 use Rattle.mp_forms.specs.Forms.{LinearForm}
 use Rattle.mp_solver.specs.declared.equated.Equated.{Equated}
 use Rattle.mp_solver.specs.declared.equated.Equated.TheVariants.{Accepted, Redundant, Inconsistent, CoefficientTooLarge, Overflow, Limit}
@@ -20,10 +21,6 @@ abbrev pub pivot_of : List Term → Option Term
 pivot_of [] = None
 pivot_of (t ∷ ts) = Some (best_of outranks t ts)
 
--- the terms of all other unknowns
-abbrev pub without : ℕ → List Term → List Term
-without serial terms = filter (λ t. not (nat_eq t.serial serial)) terms
-
 -- -(2^28 n / v)
 abbrev pub over_negative : ℤ → ℤ → ℤ
 over_negative v n = neg_ℤ (ratio_times (pos 268435456) v n)
@@ -34,10 +31,6 @@ solved_for pivot p = record {
   constant = over_negative pivot.coefficient p.constant;
   terms = changed_terms (over_negative pivot.coefficient) (without pivot.serial p.terms);
 }
-
--- the term of an unknown, where there is one
-abbrev pub term_of : ℕ → List Term → Option Term
-term_of serial terms = find (λ t. nat_eq t.serial serial) terms
 
 -- a form, whose one term of the unknown is replaced by its coefficient times another form
 abbrev pub replaced_term : ℕ → LinearForm → LinearForm → Option Term → LinearForm

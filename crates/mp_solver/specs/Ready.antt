@@ -1,7 +1,7 @@
 -- An equation that was brought up to date, until it is taken.
 use Rattle.std.specs.Prelude.{Result, Ok, Err}
 use Rattle.mp_forms.specs.declared.fault.FormFault.{FormFault}
-use Rattle.mp_forms.specs.Terms.{AreTerms}
+use Rattle.mp_pool.specs.Terms.{AreTerms}
 use Rattle.mp_forms.specs.Forms.{LinearForm}
 use Rattle.mp_solver.specs.States.{States, Unknowns, IsOver}
 use Rattle.mp_solver.specs.Solved.{IsReduced}

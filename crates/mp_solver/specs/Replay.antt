@@ -1,7 +1,7 @@
 -- A system is what its events have made of it.
 use Rattle.std.specs.Prelude.{◌≡◌, ℕ, Bool, true, false, List, [], ◌∷◌, ◌++◌, Result, Ok, Err, fold, count_by}
 use Rattle.mp_forms.specs.declared.fault.FormFault.{FormFault}
-use Rattle.mp_forms.specs.Terms.{AreTerms}
+use Rattle.mp_pool.specs.Terms.{AreTerms}
 use Rattle.mp_forms.specs.Forms.{LinearForm}
 use Rattle.mp_solver.specs.declared.fresh.Fresh.{Fresh as FreshAnswer}
 use Rattle.mp_solver.specs.declared.fresh.Fresh.TheVariants.{Made}

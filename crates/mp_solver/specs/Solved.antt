@@ -1,6 +1,6 @@
 -- The systems that the calls make: every equation is solved.
 use Rattle.std.specs.Prelude.{◌≡◌, ◌≤◌, ◌<◌, ◌^◌, unsigned_abs, None, All}
-use Rattle.mp_forms.specs.Terms.{AreTerms}
+use Rattle.mp_pool.specs.Terms.{AreTerms}
 use Rattle.mp_forms.specs.Forms.{LinearForm}
 use Rattle.mp_solver.specs.declared.limits.TheConstants.{TERM_LIMIT}
 use Rattle.mp_solver.specs.States.{States, form_of, IsOver}

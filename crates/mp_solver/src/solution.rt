@@ -1,7 +1,7 @@
 //! What the pivot of an equation equals, and how that replaces it in a form.
 
 ghost use Rattle.std.specs.Prelude.{◌≡◌, ◌↔◌, ◌<◌, ◌≤◌, ◌^◌, ◌++◌, unsigned_abs, All, IfOk, OnOk, IfSome, IsNone};
-ghost use Rattle.mp_forms.specs.Terms.{lone_term, changed_terms, AreTerms};
+ghost use Rattle.mp_pool.specs.Terms.{lone_term, changed_terms, AreTerms};
 ghost use Rattle.mp_solver.specs.Elimination.{pivot_of, without, over_negative, solved_for, term_of, judged};
 ghost use Rattle.mp_solver.specs.Storage.Solution.{IsSolution, replaced_sum, replacement_of};
 

@@ -1,7 +1,7 @@
 use Rattle.std.proofs.Common.{◌<◌, pos, length, get_or, FitsSigned, w64, rules, arith}
 use Rattle.std.proofs.lemmas.Int.{to_z-of_z}
 use Rattle.mp_pool.specs.declared.Term.{Term}
-use Rattle.mp_forms.specs.Ratios.{ratio_times}
+use Rattle.mp_pool.specs.Ratios.{ratio_times}
 use Rattle.mp_forms.proofs.TermLemmas.{changed_terms-more}
 use Rattle.mp_forms.proofs.terms.push_each.Goals as goal
 

@@ -1,6 +1,6 @@
 use Rattle.std.proofs.Common.{◌≡◌, ◌++◌, take}
-use Rattle.mp_forms.specs.Ratios.{ratio_times}
-use Rattle.mp_forms.specs.Terms.{changed_terms}
+use Rattle.mp_pool.specs.Ratios.{ratio_times}
+use Rattle.mp_pool.specs.Terms.{changed_terms}
 use Rattle.mp_forms.proofs.terms.push_each.Given as goal
 
 abbrev pub invariant-loop-term : goal.invariant-loop-term

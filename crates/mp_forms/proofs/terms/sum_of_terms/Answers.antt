@@ -1,6 +1,6 @@
 use Rattle.std.proofs.Common.{◌+ℤ◌, FitsSigned, w64, rules, arith}
 use Rattle.std.proofs.lemmas.Int.{ints, to_z-of_z}
-use Rattle.mp_forms.specs.Ratios.{ratio_times}
+use Rattle.mp_pool.specs.Ratios.{ratio_times}
 use Rattle.mp_forms.proofs.TermLemmas.{AreTerms-head, IsMerging-left, IsMerging-both, IsMerging-right, IsMerging-none_left, IsMerging-none_right}
 use Rattle.mp_forms.proofs.terms.sum_of_terms.Goals as goal
 use Rattle.mp_forms.proofs.terms.sum_of_terms.Goals.{in_default, in_default-2}

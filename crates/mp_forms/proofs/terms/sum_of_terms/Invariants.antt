@@ -1,5 +1,5 @@
 use Rattle.std.proofs.Common.{◌+◌, length}
-use Rattle.mp_forms.specs.Ratios.{ratio_times}
+use Rattle.mp_pool.specs.Ratios.{ratio_times}
 use Rattle.mp_forms.proofs.TermLemmas.{IsMerging}
 use Rattle.mp_forms.proofs.terms.sum_of_terms.Given as goal
 

@@ -1,5 +1,5 @@
 use Rattle.std.proofs.Common.{◌≡◌, take}
-use Rattle.mp_forms.specs.Terms.{changed_terms}
+use Rattle.mp_pool.specs.Terms.{changed_terms}
 use Rattle.mp_solver.specs.Elimination.{over_negative}
 use Rattle.mp_solver.proofs.solution.quotients.Given as goal
 

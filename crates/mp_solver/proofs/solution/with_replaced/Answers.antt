@@ -1,5 +1,5 @@
 use Rattle.std.proofs.Common.{sym}
-use Rattle.mp_forms.specs.Terms.{IsCoefficient}
+use Rattle.mp_pool.specs.Terms.{IsCoefficient}
 use Rattle.std.proofs.lemmas.Int.{to_z-of_z}
 use Rattle.mp_solver.proofs.QuotientLemmas.{fits64}
 use Rattle.mp_solver.proofs.ReductionLemmas.{AreTerms-filter}

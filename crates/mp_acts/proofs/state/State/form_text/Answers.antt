@@ -1,7 +1,7 @@
 use Rattle.std.proofs.Common.{subst, List}
 use Rattle.std.specs.List.{All}
 use Rattle.mp_pool.specs.declared.Term.{Term}
-use Rattle.mp_forms.specs.Terms.{IsCoefficient}
+use Rattle.mp_pool.specs.Terms.{IsCoefficient}
 use Rattle.mp_acts.proofs.state.State.form_text.Goals as goal
 
 pub push_sum-requires-clause-coefficients : goal.push_sum-requires-clause-coefficients

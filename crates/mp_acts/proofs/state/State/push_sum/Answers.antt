@@ -1,7 +1,7 @@
 use Rattle.std.proofs.Common.{rules, SFits, w32, w64}
 use Rattle.std.proofs.lemmas.Int.{to_z-of_z}
 use Rattle.std.proofs.lemmas.List.Elements.{All-tail}
-use Rattle.mp_forms.specs.Terms.{IsCoefficient}
+use Rattle.mp_pool.specs.Terms.{IsCoefficient}
 use Rattle.mp_acts.specs.Texts.{first_sign, unsigned_term, more_terms, last_constant}
 use Rattle.mp_acts.proofs.TextLemmas.{sum_of_parts}
 use Rattle.mp_acts.proofs.state.State.push_sum.Goals as goal

@@ -1,7 +1,7 @@
 use Rattle.std.proofs.Common.{◌+ℤ◌}
 use Rattle.std.proofs.lemmas.Int.{to_z-of_z}
-use Rattle.mp_forms.specs.Ratios.{times_fraction}
-use Rattle.mp_forms.specs.Terms.{sum_terms}
+use Rattle.mp_pool.specs.Ratios.{times_fraction}
+use Rattle.mp_pool.specs.Terms.{sum_terms}
 use Rattle.mp_forms.proofs.LimitLemmas.{result_too_large, result_overflow}
 use Rattle.mp_forms.proofs.form.Form.add_times.Goals as goal
 

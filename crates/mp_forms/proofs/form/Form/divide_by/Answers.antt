@@ -3,8 +3,8 @@ use Rattle.std.specs.Result.{IfOk, IsErrOf}
 use Rattle.std.proofs.lemmas.Int.{to_z-of_z}
 use Rattle.std.proofs.lemmas.Result.{IfOk-weaker}
 use Rattle.mp_forms.specs.declared.fault.FormFault.TheVariants.{Overflow, CoefficientTooLarge}
-use Rattle.mp_forms.specs.Ratios.{over_scaled}
-use Rattle.mp_forms.specs.Terms.{changed_terms, HasTooLarge}
+use Rattle.mp_pool.specs.Ratios.{over_scaled}
+use Rattle.mp_pool.specs.Terms.{changed_terms, HasTooLarge}
 use Rattle.mp_forms.specs.Forms.{changed_form}
 use Rattle.mp_forms.proofs.LimitLemmas.{result_too_large, result_overflow}
 use Rattle.mp_forms.proofs.form.Form.divide_by.Goals as goal

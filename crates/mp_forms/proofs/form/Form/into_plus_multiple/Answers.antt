@@ -1,9 +1,9 @@
 use Rattle.std.proofs.Common.{◌≡◌, ◌+ℤ◌, ◌++◌, ap, ◌∙◌, to_z, of_z, FitsSigned, w32, w64, rules, arith}
 use Rattle.std.proofs.lemmas.Int.{to_z-of_z}
 use Rattle.std.specs.Result.{IfOk}
-use Rattle.mp_forms.specs.Terms.{lone_term}
+use Rattle.mp_pool.specs.Terms.{lone_term}
 use Rattle.mp_forms.specs.Forms.{within_limits}
-use Rattle.mp_forms.specs.Ratios.{ratio_times}
+use Rattle.mp_pool.specs.Ratios.{ratio_times}
 use Rattle.mp_forms.proofs.TermLemmas.{AreTerms-head, sum_terms-first}
 use Rattle.mp_forms.proofs.form.Form.into_plus_multiple.Goals as goal
 

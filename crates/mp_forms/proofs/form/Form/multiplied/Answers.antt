@@ -1,5 +1,5 @@
-use Rattle.mp_forms.specs.Ratios.{ratio_times}
-use Rattle.mp_forms.proofs.TermLemmas.{AreOrdered-changed_terms}
+use Rattle.mp_pool.specs.Ratios.{ratio_times}
+use Rattle.mp_pool.proofs.TermLemmas.{AreOrdered-changed_terms}
 use Rattle.mp_forms.proofs.form.Form.multiplied.Goals as goal
 
 pub limited-requires : goal.limited-requires

@@ -1,4 +1,4 @@
-use Rattle.mp_forms.proofs.TermLemmas.{AreOrdered-sum_terms}
+use Rattle.mp_pool.proofs.TermLemmas.{AreOrdered-sum_terms}
 use Rattle.mp_forms.proofs.form.Form.plus_multiple.Goals as goal
 
 pub limited-requires : goal.limited-requires

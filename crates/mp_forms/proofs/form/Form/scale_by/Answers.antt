@@ -1,6 +1,6 @@
 use Rattle.std.proofs.lemmas.Int.{to_z-of_z}
-use Rattle.mp_forms.specs.Ratios.{times_scaled}
-use Rattle.mp_forms.specs.Terms.{changed_terms}
+use Rattle.mp_pool.specs.Ratios.{times_scaled}
+use Rattle.mp_pool.specs.Terms.{changed_terms}
 use Rattle.mp_forms.proofs.LimitLemmas.{result_too_large, result_overflow}
 use Rattle.mp_forms.proofs.form.Form.scale_by.Goals as goal
 

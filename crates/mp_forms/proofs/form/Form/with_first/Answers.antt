@@ -1,6 +1,6 @@
 use Rattle.std.proofs.Common.{◌≡◌, ◌<◌, ◌^◌, unsigned_abs, ◌++◌, to_z, of_z, FitsSigned, w64, sym, ap, subst, rules, arith}
 use Rattle.std.proofs.lemmas.Int.{to_z-of_z}
-use Rattle.mp_forms.specs.Terms.{lone_term, SerialsDecrease}
+use Rattle.mp_pool.specs.Terms.{lone_term, SerialsDecrease}
 use Rattle.mp_forms.proofs.TermLemmas.{AreTerms-first}
 use Rattle.mp_forms.proofs.form.Form.with_first.Goals as goal
 

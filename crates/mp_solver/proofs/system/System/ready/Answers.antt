@@ -1,5 +1,5 @@
 use Rattle.std.proofs.Common.{sym, ap, ◌∙◌, subst}
-use Rattle.mp_forms.specs.Terms.{AreTerms}
+use Rattle.mp_pool.specs.Terms.{AreTerms}
 use Rattle.mp_solver.specs.Solved.{IsSolved}
 use Rattle.mp_solver.proofs.StepLemmas.{IsResidual-reduce_of}
 use Rattle.mp_solver.proofs.system.System.ready.Goals as goal

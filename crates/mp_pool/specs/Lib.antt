@@ -1,0 +1,4 @@
+pub mod Ratios
+pub mod Terms
+pub mod Pool
+pub mod Storage
