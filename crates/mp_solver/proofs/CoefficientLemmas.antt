@@ -7,7 +7,7 @@ use Rattle.std.specs.List.{All, filter}
 use Rattle.std.proofs.lemmas.Bool.{lt-ltb, le-ltb, eq-eqb, eqb-false, ne_eqb, cases_order}
 use Rattle.std.proofs.lemmas.List.Elements.{All-nil, All-cons, All-head, All-tail}
 use Rattle.mp_pool.specs.declared.Term.{Term}
-use Rattle.mp_forms.specs.Terms.{changed_terms, with_term, sum_terms, SerialsDecrease, IsCoefficient, AreTerms, StayInOrder}
+use Rattle.mp_pool.specs.Terms.{changed_terms, with_term, sum_terms, SerialsDecrease, IsCoefficient, AreTerms, StayInOrder}
 use Rattle.mp_solver.specs.Elimination.{pivot_of, without, term_of}
 use Rattle.mp_solver.specs.Exact.{coefficient_in, coefficient_of}
 use Rattle.mp_solver.proofs.TermLists.{holds-pivot_of}

@@ -7,7 +7,7 @@ use Rattle.std.proofs.lemmas.List.Elements.{All-head, All-tail}
 use Rattle.std.specs.List.{All}
 use Rattle.std.specs.Option.{option_map}
 use Rattle.mp_pool.specs.declared.Term.{Term}
-use Rattle.mp_forms.specs.Terms.{SerialsDecrease, AreTerms, StayInOrder}
+use Rattle.mp_pool.specs.Terms.{SerialsDecrease, AreTerms, StayInOrder}
 use Rattle.mp_forms.specs.Forms.{LinearForm}
 use Rattle.mp_solver.specs.States.{States, form_of, IsSerial, IsOver}
 use Rattle.mp_solver.specs.Elimination.{pivot_of, solved_for, replaced, solved_states}

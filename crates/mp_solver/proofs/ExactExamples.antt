@@ -5,8 +5,8 @@ use Rattle.std.specs.List.{AllByRecursion as ByRecursion}
 use Rattle.std.proofs.lemmas.Int.{ints}
 use Rattle.std.proofs.lemmas.List.Elements.{All-from_recursion}
 use Rattle.mp_pool.specs.declared.Term.{Term}
-use Rattle.mp_forms.specs.Ratios.{times_fraction}
-use Rattle.mp_forms.specs.Terms.{with_term, sum_terms, IsCoefficient, AreTerms}
+use Rattle.mp_pool.specs.Ratios.{times_fraction}
+use Rattle.mp_pool.specs.Terms.{with_term, sum_terms, IsCoefficient, AreTerms}
 use Rattle.mp_forms.specs.Forms.{LinearForm}
 use Rattle.mp_solver.specs.declared.equated.Equated.TheVariants.{Accepted}
 use Rattle.mp_solver.specs.States.{States, IsSerial}

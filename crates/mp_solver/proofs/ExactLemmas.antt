@@ -5,7 +5,7 @@ use Rattle.std.proofs.lemmas.List.{length-append}
 use Rattle.std.proofs.lemmas.List.Elements.{All-nil, All-weaker, Contains-push_cases}
 use Rattle.mp_pool.specs.declared.Term.{Term}
 use Rattle.mp_forms.specs.declared.fault.FormFault.{FormFault}
-use Rattle.mp_forms.specs.Terms.{AreTerms, StayInOrder}
+use Rattle.mp_pool.specs.Terms.{AreTerms, StayInOrder}
 use Rattle.mp_forms.specs.Forms.{LinearForm}
 use Rattle.mp_solver.specs.States.{States, form_of, with_fresh, IsOver}
 use Rattle.mp_solver.specs.Reduction.{reduce_of}

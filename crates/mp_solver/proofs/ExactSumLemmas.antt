@@ -5,8 +5,8 @@ use Rattle.std.proofs.Math.Nat.{div-lt_iff_lt-mul}
 use Rattle.std.proofs.lemmas.Int.{ints}
 use Rattle.mp_scaled.specs.Round.{round, signed_of, signs_differ}
 use Rattle.mp_pool.specs.declared.Term.{Term}
-use Rattle.mp_forms.specs.Ratios.{ratio_times, times_fraction}
-use Rattle.mp_forms.specs.Terms.{sum_terms, AreTerms, StayInOrder}
+use Rattle.mp_pool.specs.Ratios.{ratio_times, times_fraction}
+use Rattle.mp_pool.specs.Terms.{sum_terms, AreTerms, StayInOrder}
 use Rattle.mp_forms.specs.Forms.{LinearForm}
 use Rattle.mp_solver.specs.Elimination.{without, term_of, over_negative, solved_for, replaced, replaced_term}
 use Rattle.mp_solver.specs.Exact.{coefficient_in, coefficient_of, HasNoRemainder, HaveNoRemainder, IsExactSum, without_unknown, IsExactSolution, IsExactReplacement}

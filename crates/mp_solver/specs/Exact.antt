@@ -3,8 +3,8 @@
 use Rattle.std.specs.Prelude.{◌≡◌, ℕ, ℤ, pos, ◌+ℤ◌, ◌*ℤ◌, List, [], ◌∷◌, ◌++◌, Option, Some, None, Result, Ok, Err, All, ⊤}
 use Rattle.mp_pool.specs.declared.Term.{Term}
 use Rattle.mp_forms.specs.declared.fault.FormFault.{FormFault}
-use Rattle.mp_forms.specs.Ratios.{ratio_times, times_fraction}
-use Rattle.mp_forms.specs.Terms.{sum_terms, AreTerms}
+use Rattle.mp_pool.specs.Ratios.{ratio_times, times_fraction}
+use Rattle.mp_pool.specs.Terms.{sum_terms, AreTerms}
 use Rattle.mp_forms.specs.Forms.{LinearForm}
 use Rattle.mp_solver.specs.declared.equated.Equated.TheVariants.{Accepted}
 use Rattle.mp_solver.specs.States.{States, Unknowns, form_of, IsSerial, IsOver}
