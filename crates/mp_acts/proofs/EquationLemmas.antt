@@ -104,6 +104,7 @@ equation_keeps states after variables slots symbols residual answer is h e =
       length_is = count;
       within = record {
         few = omega (arith, is.few);
+        words = is.words;
         forms = All-weaker (λ known. reach_of_known known ≤ length states) (λ known. reach_of_known known ≤ length after) (λ known h. omega arith) after forms;
         held = λ name. within_more (reach_of_variable (held variables name)) old new (is.held name) more;
         filled = all_more reach_of_slot slots old new more is.filled;

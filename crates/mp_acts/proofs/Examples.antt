@@ -7,6 +7,7 @@ use Rattle.mp_pool.specs.declared.Term.{Term}
 use Rattle.mp_forms.specs.Forms.{LinearForm}
 use Rattle.mp_pool.specs.Terms.{with_term, sum_terms}
 use Rattle.mp_report.specs.declared.error.SourceError.TheVariants as error
+use Rattle.mp_symbols.specs.Names.{number_in}
 use Rattle.mp_solver.specs.States.{Unknowns}
 use Rattle.mp_solver.specs.Replay.{Fresh, Equation, replay}
 use Rattle.mp_values.specs.Outcome.{Outcome, then, change}
@@ -34,6 +35,8 @@ use Rattle.mp_acts.specs.Suffixes.{parts_text, suffix_text, variable_name, subsc
 use Rattle.mp_acts.specs.Variables.{root_of, read, declare, assign, without_root, without_names}
 use Rattle.mp_acts.specs.Equations.{vanish, equate_numbers, equation}
 use Rattle.mp_acts.specs.Groups.{begin_group, end_group, undo_group, save, with_each, let_symbol, interim}
+use Rattle.mp_acts.specs.Start.{with_entries, first_symbols}
+use Rattle.mp_acts.specs.Definitions.{group_symbols}
 use Rattle.mp_acts.specs.declared.target.Target.TheVariants as target
 
 abbrev term : ℕ → ℤ → Term
@@ -254,3 +257,12 @@ interim_undone = refl
 user_error : speak speech.Errmessage (Text (codes "no")) start ≡ Err (error.UserError (codes "no"), start)
 unfolding speak errmessage
 user_error = refl
+
+-- the words of groups are the symbols behind the parentheses
+begins_groups : number_in first_symbols.names (codes "begingroup") ≡ Some group_symbols.begin
+unfolding first_symbols with_entries
+begins_groups = refl
+
+ends_groups : number_in first_symbols.names (codes "endgroup") ≡ Some group_symbols.end
+unfolding first_symbols with_entries
+ends_groups = refl

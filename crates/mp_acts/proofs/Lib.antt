@@ -7,3 +7,4 @@ pub mod TableLemmas
 pub mod TextLemmas
 pub mod WithinLemmas
 pub mod MeaningLemmas
+pub mod DeclarationLemmas

@@ -1,13 +1,12 @@
 -- Changes of the table of names, after which meanings still speak of what there is.
-use Rattle.std.proofs.Common.{◌≡◌, ℕ, zero, suc, ◌+◌, ◌≤◌, ◌<◌, ℤ, Bool, true, false, if◌then◌else◌, List, [], ◌∷◌, ◌++◌, Option, Some, None, length, map, refl, sym, ap, subst, ◌∙◌, arith, length-append}
+use Rattle.std.proofs.Common.{◌≡◌, ℕ, zero, suc, ◌+◌, ◌≤◌, ℤ, Bool, true, false, if◌then◌else◌, List, [], ◌∷◌, ◌++◌, Option, Some, None, length, map, drop, refl, sym, ap, subst, arith, length-append}
 use Rattle.std.specs.Prelude.{slice_set, slice_get, is_some, cond, codes}
-use Rattle.std.specs.List.{All, fold}
-use Rattle.std.specs.Option.{option_map}
+use Rattle.std.specs.List.{All}
 use Rattle.std.proofs.lemmas.List.{length-set, length-map}
 use Rattle.std.proofs.lemmas.List.Elements.{All-nil, All-cons, All-head, All-tail, All-push, All-append, All-map}
 use Rattle.mp_symbols.specs.Names.{Names, number_in, with_name, with_meaning, meaning_in}
 use Rattle.mp_symbols.specs.Tables.{Table, is_open}
-use Rattle.mp_symbols.specs.Groups.{with_symbol, with_internal, open_group, with_saved_in_group, save, save_by, save_internal, save_internal_by, undo, close_by, close_group}
+use Rattle.mp_symbols.specs.Groups.{with_symbol, with_internal, open_group, with_saved_in_group, save, save_by, save_internal, save_internal_by, close_by, close_group}
 use Rattle.mp_symbols.specs.declared.saved.Saved.{Saved}
 use Rattle.mp_symbols.specs.declared.saved.Saved.TheVariants as saved
 use Rattle.mp_tokens.specs.Items.{Item, with_item, with_items, with_names_of}
@@ -17,11 +16,12 @@ use Rattle.mp_solver.specs.Replay.{Event}
 use Rattle.mp_values.specs.declared.meaning.Meaning.{Meaning}
 use Rattle.mp_values.specs.declared.meaning.Meaning.TheVariants.{NewTag, Internal, Left, Right}
 use Rattle.mp_values.specs.declared.word.Word.{Word}
+use Rattle.mp_values.specs.declared.word.Word.TheVariants.{Begingroup, Endgroup}
 use Rattle.mp_values.specs.Words.{words}
 use Rattle.mp_values.specs.declared.value.Value.{Value}
 use Rattle.mp_vartree.specs.Variables.{Variables}
-use Rattle.mp_acts.specs.Counts.{Counts, nothing, IsWithin}
-use Rattle.mp_acts.specs.State.{State, counts_of}
+use Rattle.mp_acts.specs.Counts.{Counts, IsWithin}
+use Rattle.mp_acts.specs.State.{counts_of}
 use Rattle.mp_acts.specs.Start.{with_entries, word_entry, unbuilt_entry, internal_entries, first_internals, delimiter_entries, unbuilt_words, first_entries, first_symbols}
 use Rattle.mp_acts.specs.Reach.{reach_of_meaning, reach_of_pair, reach_of_saved}
 use Rattle.mp_acts.specs.Kept.{IsKept}
@@ -262,6 +262,10 @@ two_delimiters : (more : List (List ℕ × Meaning)) → 2 ≤ length (with_entr
 unfolding with_entries
 two_delimiters more = length-with_entries delimiter_entries more
 
+four_words : (more : List Word) (others : List (List ℕ × Meaning)) → 4 ≤ length (with_entries [] (delimiter_entries ++ (map word_entry (Begingroup ∷ Endgroup ∷ more) ++ others)))
+unfolding with_entries
+four_words more others = length-with_entries (with_entries [] (delimiter_entries ++ map word_entry (Begingroup ∷ Endgroup ∷ []))) (map word_entry more ++ others)
+
 first_in : (n : Counts) → 2 ≤ n.symbols → length first_internals ≤ n.internals → AreIn n first_symbols.names
 unfolding first_symbols
 first_in n symbols internals =
@@ -284,6 +288,13 @@ none_saved n = All-nil (Q n)
 pub first_meanings : (unknowns : States) (slots : List (Option Value)) (symbols : Table Meaning) → symbols ≡ first_symbols
     → All (λ entry. IsWithin (reach_of_meaning entry.1) (counts_of unknowns slots symbols)) symbols.names
 first_meanings unknowns slots symbols e = subst (λ (t : Table Meaning). AreIn (counts_of unknowns slots t) t.names) (sym e) (first_there unknowns slots)
+
+first_four : 4 ≤ length first_symbols.names
+unfolding first_symbols
+first_four = four_words (drop 2 words) (internal_entries 0 first_internals ++ map unbuilt_entry unbuilt_words)
+
+pub first_words : (symbols : Table Meaning) → symbols ≡ first_symbols → 4 ≤ length symbols.names
+first_words symbols e = subst (λ (t : Table Meaning). 4 ≤ length t.names) (sym e) first_four
 
 pub first_saved : (n : Counts) (symbols : Table Meaning) → symbols ≡ first_symbols → All (λ entry. IsWithin (reach_of_saved entry) n) symbols.saved
 first_saved n symbols e = subst (λ (t : Table Meaning). AreSavedIn n t.saved) (sym e) (none_saved n)

@@ -10,7 +10,6 @@ use Rattle.mp_forms.specs.Forms.{LinearForm}
 use Rattle.mp_solver.specs.States.{States, Unknowns, with_fresh, fresh_of}
 use Rattle.mp_solver.specs.declared.fresh.Fresh.{Fresh}
 use Rattle.mp_solver.specs.declared.fresh.Fresh.TheVariants.{Made, Limit}
-use Rattle.mp_values.specs.declared.value.Kind.{Kind}
 use Rattle.mp_values.specs.declared.value.Value.{Value}
 use Rattle.mp_vartree.specs.Kinds.{kind_of, is_kind}
 use Rattle.mp_vartree.specs.Names.{name_cmp, full_name, full_pattern, begins, is_meant}
@@ -20,14 +19,14 @@ use Rattle.mp_vartree.specs.Variables as variables
 use Rattle.mp_vartree.specs.Variables.{Variables, with_variable, without, with_declared, macro_at, wanted_kind}
 use Rattle.mp_vartree.specs.declared.answers.BadDeclaration.{BadDeclaration}
 use Rattle.mp_vartree.specs.declared.answers.WrongType.{WrongType}
-use Rattle.mp_vartree.specs.declared.entry.Declared.TheVariants as declared
+use Rattle.mp_vartree.specs.declared.entry.Declared.{Declared}
 use Rattle.mp_vartree.specs.declared.entry.Variable.{Variable}
 use Rattle.mp_vartree.specs.declared.names.Part.{Part}
 use Rattle.mp_vartree.specs.declared.names.Shape.{Shape}
 use Rattle.mp_solver.specs.Replay as event
 use Rattle.mp_solver.specs.Replay.{Event}
 use Rattle.mp_values.specs.declared.meaning.Meaning.{Meaning}
-use Rattle.mp_acts.specs.Counts.{Counts, nothing, most, greatest, IsWithin}
+use Rattle.mp_acts.specs.Counts.{Counts, nothing, greatest, IsWithin}
 use Rattle.mp_acts.specs.Reach.{reach, reach_of_form, reach_of_known, reach_of_fresh, reach_of_variable, reach_of_slot, reach_of_meaning, reach_of_saved, AreWithin}
 use Rattle.std.proofs.lemmas.List.{length-set}
 use Rattle.mp_symbols.specs.Names.{Names}
@@ -83,7 +82,7 @@ pub with_variables : {count : ℕ} {unknowns : Unknowns} {old new : Variables} {
     → IsKept count unknowns old slots symbols events → HoldWithin (counts_of unknowns.states slots symbols) new → IsKept count unknowns new slots symbols events
 with_variables is h = record {
   counted = is.counted;
-  within = record { few = is.within.few; forms = is.within.forms; held = h; filled = is.within.filled; meanings = is.within.meanings; saved = is.within.saved };
+  within = record { few = is.within.few; words = is.within.words; forms = is.within.forms; held = h; filled = is.within.filled; meanings = is.within.meanings; saved = is.within.saved };
   history = is.history;
 }
 
@@ -111,14 +110,14 @@ module _ (n : Counts) (v : Variables) (within : HoldWithin n v) where
   pub forget_within : TakesThose → (root : ℕ) → HoldWithin n (variables.forget v root)
   forget_within takes root = held_without takes (begins (full_pattern root []))
 
-  pub declare_within : TakesThose → (root : ℕ) (name : List Shape) (kind : Kind) (answer : Result (Unit {0}) BadDeclaration) (new : Variables)
-      → (answer, new) ≡ variables.declare v root name kind → HoldWithin n new
-  declare_within takes root name kind answer new e =
-      let after = without (with_declared v (full_pattern root name) (declared.Typed kind)) (is_meant false (full_pattern root name)) in
+  pub define_within : TakesThose → (root : ℕ) (name : List Shape) (d : Declared) (below : Bool) (answer : Result (Unit {0}) BadDeclaration) (new : Variables)
+      → (answer, new) ≡ variables.define v root name d below → HoldWithin n new
+  define_within takes root name d below answer new e =
+      let after = without (with_declared v (full_pattern root name) d) (is_meant below (full_pattern root name)) in
       let by : (b : Bool) → HoldWithin n (cond {A = Result (Unit {0}) BadDeclaration × Variables} b (Err (record {}), v) (Ok tt, after)).1 =
       λ b. elim b as (λ b. HoldWithin n (cond {A = Result (Unit {0}) BadDeclaration × Variables} b (Err (record {}), v) (Ok tt, after)).1) [
         | true ↦ within
-        | false ↦ held_without takes (is_meant false (full_pattern root name))
+        | false ↦ held_without takes (is_meant below (full_pattern root name))
       ] in
       subst (λ (w : Variables). HoldWithin n w) (sym (ap (λ pair. pair.1) e)) (by (is_below_macro (macro_at v root) name))
 
@@ -189,6 +188,7 @@ module _ (before : Unknowns) (name : List ℕ) (serial : ℕ) (after : Unknowns)
       (All-weaker (λ known. reach_of_known known ≤ n) (λ known. reach_of_known known ≤ m) (λ known h. omega (arith, length_made, h)) before.states is.forms) (omega arith) in
       record {
         few = omega (arith, length_made, made_is.0);
+        words = is.words;
         forms = subst (λ (states : States). All (λ known. reach_of_known known ≤ m) states) (sym made_is.2) forms;
         held = λ name. within_more (reach_of_variable (held v name)) old new (is.held name) more;
         filled = all_more reach_of_slot slots old new more is.filled;
@@ -225,6 +225,7 @@ with_slot {unknowns = unknowns} {v = v} {slots = slots} {symbols = symbols} is =
       counted = is.counted;
       within = record {
         few = is.within.few;
+        words = is.within.words;
         forms = is.within.forms;
         held = λ name. within_more (reach_of_variable (held v name)) old new (is.within.held name) more;
         filled = All-push (λ slot. IsWithin (reach_of_slot slot) new) slots None (all_more reach_of_slot slots old new more is.within.filled) (nothing_within new);
@@ -246,6 +247,7 @@ with_filled {unknowns = unknowns} {v = v} {slots = slots} {symbols = symbols} sl
       counted = is.counted;
       within = record {
         few = is.within.few;
+        words = is.within.words;
         forms = is.within.forms;
         held = λ name. within_more (reach_of_variable (held v name)) old new (is.within.held name) more;
         filled = All-set (λ entry. IsWithin (reach_of_slot entry) new) slots slot (Some value) (within_more (reach value) old new h more) (all_more reach_of_slot slots old new more is.within.filled);
@@ -267,6 +269,7 @@ with_table {unknowns = unknowns} {v = v} {slots = slots} {old = old} {new = new}
       counted = is.counted;
       within = record {
         few = is.within.few;
+        words = omega (arith, is.within.words, more.symbols);
         forms = is.within.forms;
         held = λ name. within_more (reach_of_variable (held v name)) before after (is.within.held name) more;
         filled = all_more reach_of_slot slots before after more is.within.filled;

@@ -13,3 +13,4 @@ pub mod Kept
 pub mod Groups
 pub mod Start
 pub mod Tokens
+pub mod Definitions

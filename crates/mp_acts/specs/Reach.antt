@@ -20,7 +20,7 @@ use Rattle.mp_vartree.specs.Laws.{held}
 use Rattle.mp_vartree.specs.declared.entry.Variable.{Variable}
 use Rattle.mp_vartree.specs.declared.names.Part.{Part}
 use Rattle.mp_vartree.specs.declared.names.Part.TheVariants as part
-use Rattle.mp_acts.specs.Counts.{Counts, nothing, most, greatest, IsWithin}
+use Rattle.mp_acts.specs.Counts.{Counts, nothing, most, IsWithin}
 use Rattle.mp_acts.specs.State.{counts_of}
 use Rattle.mp_acts.specs.declared.target.Target.{Target}
 use Rattle.mp_acts.specs.declared.target.Target.TheVariants as target
@@ -90,6 +90,7 @@ reach_of_target (target.Internal k) = one_internal k
 abbrev pub reach_of_pair : Delimiters → Counts
 reach_of_pair pair = most (one_symbol pair.left) (one_symbol pair.right)
 
+-- what the body of a macro speaks of is not counted: no body is put into a text yet
 abbrev pub reach_of_meaning : Meaning → Counts
 reach_of_meaning (meaning.Word w) = nothing
 reach_of_meaning (meaning.Unbuilt name) = nothing
@@ -98,6 +99,7 @@ reach_of_meaning (meaning.Tag root) = nothing
 reach_of_meaning (meaning.Internal k) = one_internal k
 reach_of_meaning (meaning.Left pair) = reach_of_pair pair
 reach_of_meaning (meaning.Right pair) = reach_of_pair pair
+reach_of_meaning (meaning.Macro m) = nothing
 
 -- WHAT A STATE HOLDS
 
@@ -118,9 +120,11 @@ reach_of_saved (saved.Meaning symbol old) = reach_of_meaning old
 reach_of_saved (saved.Number k old) = nothing
 
 -- the variables, the slots, the forms that unknowns equal, and the meanings of symbols, now and when a group has ended,
--- speak of what there is alone, and there are no more unknowns than can be made
+-- speak of what there is alone; there are no more unknowns than can be made, and the parentheses and the words of groups
+-- have symbols
 pub record AreWithin (unknowns : States) (variables : Variables) (slots : List (Option Value)) (symbols : Table Meaning) : Type 0 where
   pub few : length unknowns ≤ UNKNOWN_LIMIT
+  pub words : 4 ≤ length symbols.names
   pub forms : All (λ known. reach_of_known known ≤ length unknowns) unknowns
   pub held : (name : List Part) → IsWithin (reach_of_variable (held variables name)) (counts_of unknowns slots symbols)
   pub filled : All (λ slot. IsWithin (reach_of_slot slot) (counts_of unknowns slots symbols)) slots

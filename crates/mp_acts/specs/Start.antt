@@ -16,12 +16,10 @@ drawing_words =
     codes "doublepath" ∷ codes "also" ∷ codes "withpen" ∷ codes "withcolor" ∷ codes "dashed" ∷ codes "clip" ∷
     codes "to" ∷ codes "setbounds" ∷ codes "shipout" ∷ codes "special" ∷ codes "randomseed" ∷ []
 
--- macros, conditions, loops and files
-abbrev pub macro_words : List (List ℕ)
-macro_words =
-    codes "def" ∷ codes "vardef" ∷ codes "primarydef" ∷ codes "secondarydef" ∷ codes "tertiarydef" ∷
-    codes "enddef" ∷ codes "expr" ∷ codes "suffix" ∷ codes "text" ∷ codes "primary" ∷ codes "secondary" ∷
-    codes "tertiary" ∷ codes "of" ∷ codes "@#" ∷ codes "@" ∷ codes "#@" ∷ codes "\\" ∷ codes "if" ∷
+-- conditions, loops and files
+abbrev pub control_words : List (List ℕ)
+control_words =
+    codes "\\" ∷ codes "if" ∷
     codes "elseif" ∷ codes "else" ∷ codes "fi" ∷ codes "for" ∷ codes "forsuffixes" ∷ codes "forever" ∷
     codes "endfor" ∷ codes "exitif" ∷ codes "step" ∷ codes "until" ∷ codes "input" ∷ codes "endinput" ∷
     codes "scantokens" ∷ codes "expandafter" ∷ codes ":" ∷ []
@@ -64,7 +62,7 @@ other_words =
 
 -- the words of the language that are not built
 abbrev pub unbuilt_words : List (List ℕ)
-unbuilt_words = drawing_words ++ (macro_words ++ (operand_words ++ (operator_words ++ other_words)))
+unbuilt_words = drawing_words ++ (control_words ++ (operand_words ++ (operator_words ++ other_words)))
 
 -- the internals with their first values, in units of 2^-16
 abbrev pub first_internals : List (List ℕ × ℤ)

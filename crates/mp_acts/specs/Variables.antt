@@ -10,8 +10,14 @@ use Rattle.mp_solver.specs.Replay as event
 use Rattle.mp_report.specs.declared.error.Cap.TheVariants as cap
 use Rattle.mp_report.specs.declared.error.SourceError.TheVariants as error
 use Rattle.mp_symbols.specs.Groups.{with_symbol, with_internal}
-use Rattle.mp_values.specs.Outcome.{Outcome, Rule, ◌>>=◌, give, change}
-use Rattle.mp_values.specs.Refusals.{wrong_type}
+use Rattle.mp_values.specs.Outcome.{Outcome, Rule, ◌>>=◌, give, halt, change}
+use Rattle.mp_values.specs.Refusals.{wrong_type, unbuilt}
+use Rattle.mp_values.specs.Words.{name_of_definition}
+use Rattle.mp_values.specs.declared.macros.Level.{Level}
+use Rattle.mp_values.specs.declared.macros.Level.TheVariants as level
+use Rattle.mp_values.specs.declared.macros.Macro.{Macro}
+use Rattle.mp_values.specs.declared.word.Definition.TheVariants as definition
+use Rattle.mp_macro.specs.declared.defined.Defined.{Defined}
 use Rattle.mp_values.specs.declared.meaning.Meaning.{Meaning}
 use Rattle.mp_values.specs.declared.meaning.Meaning.TheVariants as meaning
 use Rattle.mp_values.specs.declared.value.Kind.{Kind}
@@ -20,7 +26,7 @@ use Rattle.mp_values.specs.declared.value.Value.{Value}
 use Rattle.mp_values.specs.declared.value.Value.TheVariants.{Boolean, Numeric, Text, Unset, Vacuous}
 use Rattle.mp_vartree.specs.Kinds.{kind_of, is_kind}
 use Rattle.mp_vartree.specs.Variables as variables
-use Rattle.mp_vartree.specs.Variables.{Variables, variable_at, wanted_kind, made, made_at}
+use Rattle.mp_vartree.specs.Variables.{Variables, variable_at, macro_of, wanted_kind, made, made_at}
 use Rattle.mp_vartree.specs.declared.answers.BadDeclaration.{BadDeclaration}
 use Rattle.mp_vartree.specs.declared.entry.Variable.{Variable}
 use Rattle.mp_vartree.specs.declared.names.Part.{Part}
@@ -123,33 +129,72 @@ without_root root s = giving_up s (variables.forget s.variables root) (made s.va
 abbrev pub IsForgetting : State → State → Type 0
 IsForgetting old new = new ≡ record old { variables = new.variables; unknowns = record old.unknowns { names = new.unknowns.names } }
 
--- DECLARATIONS
+-- DECLARATIONS AND DEFINITIONS
 
--- the root for the variables of a symbol that means this: the one that it has, or the next, which is used up
-abbrev pub root_for : Meaning → Rule State ℕ
-root_for (meaning.Tag root) s = Ok (root, s)
-root_for m s = Ok (s.variables.roots, record s { variables = variables.with_new_root s.variables })
+abbrev pub is_tag : Meaning → Bool
+is_tag (meaning.Tag root) = true
+is_tag m = false
+
+-- the root of a tag; for what has none it is the next one
+abbrev pub root_in : State → Meaning → ℕ
+root_in s (meaning.Tag root) = root
+root_in s m = s.variables.roots
+
+-- that root is used up
+abbrev pub with_next_root : State → State
+with_next_root s = record s { variables = variables.with_new_root s.variables }
 
 -- a symbol is the tag of a root
 abbrev pub with_tag : ℕ → ℕ → State → State
 with_tag symbol root s = record s { symbols = with_symbol s.symbols symbol (meaning.Tag root) }
 
--- the symbol becomes a tag where the declaration is accepted
-abbrev pub declared_by : ℕ → ℕ → List ℕ → Result (Unit {0}) BadDeclaration × Variables → Rule State (Unit {0})
-declared_by symbol root serials (Ok x, variables) s = Ok (tt, with_tag symbol root (giving_up s variables serials))
-declared_by symbol root serials (Err refused, variables) s = Err (error.BadDeclaration, s)
+-- a symbol that meant this is the tag of its root from now on
+abbrev pub tagged : ℕ → ℕ → Meaning → State → State
+tagged symbol root (meaning.Tag old) s = with_tag symbol root s
+tagged symbol root m s = with_tag symbol root (with_next_root s)
+
+-- the symbol becomes a tag where the declaration is accepted; one that is refused leaves the state as it was
+abbrev pub declared_by : ℕ → ℕ → Meaning → List ℕ → Result (Unit {0}) BadDeclaration × Variables → Rule State (Unit {0})
+declared_by symbol root m serials (Ok x, variables) s = Ok (tt, tagged symbol root m (giving_up s variables serials))
+declared_by symbol root m serials (Err refused, variables) s = Err (error.BadDeclaration, s)
 
 abbrev pub declare_root : ℕ → List Shape → Kind → ℕ → Rule State (Unit {0})
-declare_root symbol name kind root s = declared_by symbol root (made s.variables root name false) (variables.declare s.variables root name kind) s
+declare_root symbol name kind root s = declared_by symbol root (symbol_meaning s symbol) (made s.variables root name false) (variables.declare s.variables root name kind) s
 
--- the variables of a pattern get a type, and lose their values. A declaration that is refused leaves the symbol and the
--- variables, but for a root that may be used up
+-- the variables of a pattern get a type, and lose their values
 unfoldable pub declare : ℕ → List Shape → Kind → Rule State (Unit {0})
-declare symbol name kind s = (root_for (symbol_meaning s symbol) >>= declare_root symbol name kind) s
+declare symbol name kind s = declare_root symbol name kind (root_in s (symbol_meaning s symbol)) s
 
--- the states differ by roots at most that were used up
-abbrev pub SameButRoots : State → State → Type 0
-SameButRoots old new = new ≡ record old { variables = record old.variables { roots = new.variables.roots } }
+abbrev pub define_root : ℕ → List Shape → Macro → ℕ → Rule State (Unit {0})
+define_root symbol name m root s = declared_by symbol root (symbol_meaning s symbol) (made s.variables root name true) (variables.define_macro s.variables root name m) s
+
+-- the variables of a pattern get a macro, and these and all below them lose their values
+unfoldable pub define_variable : ℕ → List Shape → Macro → Rule State (Unit {0})
+define_variable symbol name m s = define_root symbol name m (root_in s (symbol_meaning s symbol)) s
+
+-- a symbol gets a macro
+abbrev pub with_macro : ℕ → Macro → State → State
+with_macro symbol m s = record s { symbols = with_symbol s.symbols symbol (meaning.Macro m) }
+
+-- what a definition does, by how its macro is called
+abbrev pub define_by : Level → Defined → Rule State (Unit {0})
+define_by level.Plain d = change (with_macro d.symbol d.value)
+define_by level.Variable d = define_variable d.symbol d.parts d.value
+define_by level.Suffixed d = define_variable d.symbol d.parts d.value
+define_by level.Primary d = change (with_macro d.symbol d.value)
+define_by level.Secondary d = change (with_macro d.symbol d.value)
+define_by level.Tertiary d = change (with_macro d.symbol d.value)
+
+unfoldable pub define : Defined → Rule State (Unit {0})
+define d = define_by d.value.level d
+
+abbrev pub uncalled : Option (Macro × ℕ) → Rule State (Unit {0})
+uncalled (Some m) = halt (unbuilt (name_of_definition definition.Vardef))
+uncalled None = give tt
+
+-- a name that begins with that of a macro is a call, which is not built
+unfoldable pub no_call : ℕ → List Part → Rule State (Unit {0})
+no_call root name s = uncalled (macro_of s.variables root name) s
 
 -- ASSIGNMENTS
 

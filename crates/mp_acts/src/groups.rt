@@ -1,6 +1,6 @@
 //! Groups, and the statements that change what symbols mean.
 
-ghost use Rattle.std.specs.Prelude.{◌≡◌, ◌<◌, Ok, Err, length, true, false, OnOk};
+ghost use Rattle.std.specs.Prelude.{◌≡◌, ◌<◌, Ok, Err, length, true, false, IfOk, OnOk};
 ghost use Rattle.mp_symbols.specs.Groups.{close_group};
 ghost use Rattle.mp_values.specs.Outcome.{Gives, IsWhole, change};
 ghost use Rattle.mp_values.specs.declared.fault.Fault.TheVariants.{NoMemory as WantOfMemory};
@@ -110,16 +110,18 @@ impl State {
         Ok(())
     }
 
-    /// Gives a symbol what another one means; a tag is not shared, but new. It takes no memory.
+    /// Gives a symbol what another one means; a tag is not shared, but new.
     #[tactic(auto, unfolding(crate::specs::Groups::let_symbol))]
-    pub fn do_let(&mut self, symbol: u32, other: u32)
+    pub fn do_let(&mut self, symbol: u32, other: u32) -> Result<(), Fault>
         requires symbol { symbol < symbol_count self.old }
         requires other { other < symbol_count self.old }
-        ensures exact { self.new ≡ groups.let_symbol symbol other self.old }
+        ensures exact { Gives result self.new (change (groups.let_symbol symbol other) self.old) }
+        ensures whole { IsWhole result self.old self.new }
         ensures counts { IsWithin (counts self.old) (counts self.new) }
     {
-        let meaning = copied(self.symbol_meaning(other));
+        let meaning = copied(self.symbol_meaning(other))?;
         self.set_meaning(symbol, meaning);
+        Ok(())
     }
 
     /// Makes two symbols a pair of delimiters. It takes no memory.
@@ -153,12 +155,12 @@ impl State {
 }
 
 /// What a symbol gets that is let have this meaning.
-fn copied(meaning: &Meaning) -> Meaning
-    ensures exact { result ≡ groups.copied meaning.now }
-    ensures within { IsWithin (reach_of_meaning result) (reach_of_meaning meaning.now) }
+fn copied(meaning: &Meaning) -> Result<Meaning, NoMemory>
+    ensures exact { IfOk result (λ new. new ≡ groups.copied meaning.now) }
+    ensures within { IfOk result (λ new. IsWithin (reach_of_meaning new) (reach_of_meaning meaning.now)) }
 {
     match meaning {
-        Meaning::Tag(_) => Meaning::NewTag,
-        _ => meaning.copy(),
+        Meaning::Tag(_) => Ok(Meaning::NewTag),
+        _ => meaning.share(),
     }
 }

@@ -9,6 +9,7 @@
 #![tactic(auto)]
 
 mod arithmetic;
+mod definitions;
 mod equations;
 mod event;
 mod events;

@@ -60,7 +60,7 @@ fn add_all_unbuilt_words(symbols: &mut Symbols<Meaning>) -> Result<(), NoMemory>
         (map unbuilt_entry unbuilt_words)) }
 {
     add_unbuilt_words(symbols, &DRAWING_WORDS)?;
-    add_unbuilt_words(symbols, &MACRO_WORDS)?;
+    add_unbuilt_words(symbols, &CONTROL_WORDS)?;
     add_unbuilt_words(symbols, &OPERAND_WORDS)?;
     add_unbuilt_words(symbols, &OPERATOR_WORDS)?;
     add_unbuilt_words(symbols, &OTHER_WORDS)?;
@@ -140,24 +140,8 @@ const DRAWING_WORDS: [&[u8]; 20] = [
     b"randomseed",
 ];
 
-/// Macros, conditions, loops and files.
-const MACRO_WORDS: [&[u8]; 33] = [
-    b"def",
-    b"vardef",
-    b"primarydef",
-    b"secondarydef",
-    b"tertiarydef",
-    b"enddef",
-    b"expr",
-    b"suffix",
-    b"text",
-    b"primary",
-    b"secondary",
-    b"tertiary",
-    b"of",
-    b"@#",
-    b"@",
-    b"#@",
+/// Conditions, loops and files.
+const CONTROL_WORDS: [&[u8]; 17] = [
     b"\\",
     b"if",
     b"elseif",

@@ -1,6 +1,6 @@
 //! Variables: their roots, their declarations, how they are read, and what is assigned.
 
-ghost use Rattle.std.specs.Prelude.{ℕ, ◌≡◌, ◌≤◌, ◌<◌, true, [], None, Ok, Err, length, vec_len, vec_capacity, IfOk, IfSome, OnOk, OnErr};
+ghost use Rattle.std.specs.Prelude.{ℕ, ◌≡◌, ◌≢◌, ◌≤◌, ◌<◌, true, false, [], None, Ok, Err, length, vec_len, vec_capacity, IfOk, IfSome, OnOk, OnErr};
 ghost use Rattle.std.specs.Option.{option_map};
 ghost use Rattle.mp_solver.specs.States.{fresh_of};
 ghost use Rattle.mp_values.specs.Outcome.{Gives, IsWhole, change};
@@ -8,22 +8,23 @@ ghost use Rattle.mp_values.specs.declared.fault.Fault.TheVariants.{NoMemory as W
 ghost use Rattle.mp_values.specs.declared.meaning.Meaning.TheVariants.{NewTag};
 ghost use Rattle.mp_values.specs.declared.value.Value.TheVariants.{Numeric};
 ghost use Rattle.mp_vartree.specs.Kinds.{kind_of, is_kind};
-ghost use Rattle.mp_vartree.specs.Variables.{variable_at, wanted_kind};
+ghost use Rattle.mp_vartree.specs.Variables.{variable_at, wanted_kind, declare, define_macro};
 ghost use Rattle.mp_acts.specs.Counts.{IsWithin, greatest, nothing};
 ghost use Rattle.mp_acts.specs.State.{unknown_count, symbol_count, internal_count, symbol_name, symbol_meaning, internal_value, counts};
 ghost use Rattle.mp_acts.specs.Reach.{reach, reach_of_serial, reach_of_fresh, reach_of_part, reach_of_target, reach_of_meaning};
 ghost use Rattle.mp_acts.specs.Arithmetic.{known_number};
 ghost use Rattle.mp_acts.specs.Variables as variables;
-ghost use Rattle.mp_acts.specs.Variables.{IsReadInPart, IsForgetting, SameButRoots};
+ghost use Rattle.mp_acts.specs.Variables.{IsReadInPart, IsForgetting, is_tag};
 
 use crate::event::Event;
 use crate::{State, Target};
 use mp_forms::Form;
+use mp_macro::Defined;
 use mp_report::{Cap, SourceError};
-use mp_scaled::{Bytes, NoMemory};
+use mp_scaled::{Bytes, NoMemory, Shared};
 use mp_solver::{Fresh, System, UNKNOWN_LIMIT};
-use mp_values::{Fault, Kind, Meaning, Value};
-use mp_vartree::{Part, Shape, Variable, has_kind, variables_are_a_map};
+use mp_values::{Definition, Fault, Kind, Level, Macro, Meaning, Value};
+use mp_vartree::{BadDeclaration, Part, Shape, Variable, has_kind, variables_are_a_map};
 use std::alloc::Global;
 use std::snapshot::Snapshot;
 
@@ -77,7 +78,8 @@ impl State {
         ensures whole { IsWhole result self.old self.new }
         ensures counts { IsWithin (counts self.old) (counts self.new) }
     {
-        let root = self.next_root()?;
+        let root = self.variables.next_root()?;
+        self.use_root();
         self.set_meaning(symbol, Meaning::Tag(root));
         Ok(root)
     }
@@ -228,67 +230,165 @@ impl State {
     /// Declares the variables of a pattern, which lose their values: `BadDeclaration` below the name of a macro.
     ///
     /// A symbol that is no tag becomes one where the declaration is accepted. The unknowns that the variables were have
-    /// no names any more. A refusal and want of memory may leave a root used up, and nothing else.
+    /// no names any more. A declaration that is refused changes nothing.
     #[tactic(auto, unfolding(crate::specs::Variables::declare))]
     pub fn do_declare(&mut self, symbol: u32, name: &[Shape], kind: Kind) -> Result<(), Fault>
         requires { symbol < symbol_count self.old }
         ensures exact { Gives result self.new (variables.declare symbol name.now kind self.old) }
-        ensures part { result ≡ Err WantOfMemory → SameButRoots self.old self.new }
-        ensures counts { IsWithin (counts self.old) (counts self.new) }
-    {
-        let root = self.root_for(symbol)?;
-        self.declare_root(symbol, root, name, kind)
-    }
-
-    /// The root that a symbol has, or the next, which is used up.
-    fn root_for(&mut self, symbol: u32) -> Result<u32, Fault>
-        requires { symbol < symbol_count self.old }
-        ensures exact { Gives result self.new
-            (variables.root_for (symbol_meaning self.old symbol) self.old) }
-        ensures roots { SameButRoots self.old self.new }
-        ensures counts { IsWithin (counts self.old) (counts self.new) }
-    {
-        match self.symbol_meaning(symbol) {
-            Meaning::Tag(root) => Ok(*root),
-            _ => Ok(self.next_root()?),
-        }
-    }
-
-    /// A root that was never given before.
-    fn next_root(&mut self) -> Result<u32, NoMemory>
-        ensures exact { IfOk result (λ root. Ok (root, self.new)
-            ≡ variables.root_for NewTag self.old) }
-        ensures roots { SameButRoots self.old self.new }
-        ensures err { OnErr result (self.new ≡ self.old) }
-        ensures counts { IsWithin (counts self.old) (counts self.new) }
-    {
-        let root = self.variables.new_root()?;
-        Ok(root)
-    }
-
-    fn declare_root(
-        &mut self,
-        symbol: u32,
-        root: u32,
-        name: &[Shape],
-        kind: Kind,
-    ) -> Result<(), Fault>
-        requires { symbol < symbol_count self.old }
-        ensures exact { Gives result self.new
-            (variables.declare_root symbol name.now kind root self.old) }
         ensures whole { IsWhole result self.old self.new }
         ensures counts { IsWithin (counts self.old) (counts self.new) }
     {
-        variables_are_a_map();
+        let root = self.root_for(symbol)?;
         let serials = self.variables.made(self.alloc, root, name, false)?;
-        match self.variables.declare(root, name, kind)? {
+        match self.with_type(root, name, kind)? {
             Ok(()) => {
-                self.give_up(serials.as_slice());
-                self.set_meaning(symbol, Meaning::Tag(root));
+                self.become_tag(symbol, root, serials.as_slice());
                 Ok(())
             }
             Err(_) => Err(Fault::Refused(SourceError::BadDeclaration)),
         }
+    }
+
+    /// Gives the variables of a pattern a macro; these and all below them lose their values: `BadDeclaration` below the
+    /// name of a macro.
+    ///
+    /// A symbol that is no tag becomes one where the definition is accepted. The unknowns that the variables were have
+    /// no names any more. A definition that is refused changes nothing.
+    #[tactic(auto, unfolding(crate::specs::Variables::define_variable))]
+    fn define_variable(
+        &mut self,
+        symbol: u32,
+        name: &[Shape],
+        m: Shared<Macro>,
+    ) -> Result<(), Fault>
+        requires { symbol < symbol_count self.old }
+        ensures exact { Gives result self.new (variables.define_variable symbol name.now m self.old) }
+        ensures whole { IsWhole result self.old self.new }
+        ensures counts { IsWithin (counts self.old) (counts self.new) }
+    {
+        let root = self.root_for(symbol)?;
+        let serials = self.variables.made(self.alloc, root, name, true)?;
+        match self.with_macro(root, name, m)? {
+            Ok(()) => {
+                self.become_tag(symbol, root, serials.as_slice());
+                Ok(())
+            }
+            Err(_) => Err(Fault::Refused(SourceError::BadDeclaration)),
+        }
+    }
+
+    /// What a definition does: a symbol gets the macro, or the variables of a pattern do, which lose their values with
+    /// all below them: `BadDeclaration` below the name of a macro, and then nothing changes.
+    #[tactic(auto, unfolding(crate::specs::Variables::define))]
+    pub fn do_define(&mut self, made: Defined) -> Result<(), Fault>
+        requires { made.symbol < symbol_count self.old }
+        ensures exact { Gives result self.new (variables.define made self.old) }
+        ensures whole { IsWhole result self.old self.new }
+        ensures counts { IsWithin (counts self.old) (counts self.new) }
+    {
+        let Defined {
+            symbol,
+            parts,
+            value,
+        } = made;
+        let level = value.level;
+        let m = Shared::new(self.alloc, value)?;
+        match level {
+            Level::Variable | Level::Suffixed => self.define_variable(symbol, parts.as_slice(), m),
+            Level::Plain | Level::Primary | Level::Secondary | Level::Tertiary => {
+                self.set_meaning(symbol, Meaning::Macro(m));
+                Ok(())
+            }
+        }
+    }
+
+    /// Refuses a name that begins with that of a macro: calls are not built.
+    #[tactic(auto, unfolding(crate::specs::Variables::no_call))]
+    pub fn no_call(&self, root: u32, name: &[Part]) -> Result<(), Fault>
+        ensures { Gives result self.now (variables.no_call root name.now self.now) }
+    {
+        match self.variables.macro_of(root, name) {
+            Some(_) => Err(Fault::not_built(self.alloc, Definition::Vardef.name())),
+            None => Ok(()),
+        }
+    }
+
+    /// The root that a symbol has, or else the next, where there is one.
+    fn root_for(&self, symbol: u32) -> Result<u32, NoMemory>
+        requires { symbol < symbol_count self.now }
+        ensures root { IfOk result (λ root. root ≡ variables.root_in self.now (symbol_meaning self.now symbol)) }
+        ensures free { OnOk result (is_tag (symbol_meaning self.now symbol) ≡ false
+            → self.now.variables.roots ≢ 4294967295) }
+    {
+        match self.symbol_meaning(symbol) {
+            Meaning::Tag(root) => Ok(*root),
+            _ => self.variables.next_root(),
+        }
+    }
+
+    /// Gives a pattern a type; the names of unknowns stay.
+    fn with_type(
+        &mut self,
+        root: u32,
+        name: &[Shape],
+        kind: Kind,
+    ) -> Result<Result<(), BadDeclaration>, NoMemory>
+        ensures exact { IfOk result (λ answer. (answer, self.new.variables)
+            ≡ declare self.old.variables root name.now kind) }
+        ensures rest { self.new ≡ record self.old { variables = self.new.variables } }
+        ensures err { OnErr result (self.new ≡ self.old) }
+        ensures counts { IsWithin (counts self.old) (counts self.new) }
+    {
+        variables_are_a_map();
+        let answer = self.variables.declare(root, name, kind)?;
+        Ok(answer)
+    }
+
+    /// Gives a pattern a macro; the names of unknowns stay.
+    fn with_macro(
+        &mut self,
+        root: u32,
+        name: &[Shape],
+        m: Shared<Macro>,
+    ) -> Result<Result<(), BadDeclaration>, NoMemory>
+        ensures exact { IfOk result (λ answer. (answer, self.new.variables)
+            ≡ define_macro self.old.variables root name.now m) }
+        ensures rest { self.new ≡ record self.old { variables = self.new.variables } }
+        ensures err { OnErr result (self.new ≡ self.old) }
+        ensures counts { IsWithin (counts self.old) (counts self.new) }
+    {
+        variables_are_a_map();
+        let answer = self.variables.define_macro(root, name, m)?;
+        Ok(answer)
+    }
+
+    /// Makes a symbol the tag of its root, which is used up where it was the next. These unknowns have no names any
+    /// more.
+    fn become_tag(&mut self, symbol: u32, root: u32, serials: &[u32])
+        requires symbol { symbol < symbol_count self.old }
+        requires free { is_tag (symbol_meaning self.old symbol) ≡ false
+            → self.old.variables.roots ≢ 4294967295 }
+        ensures exact { self.new ≡ variables.tagged symbol root (symbol_meaning self.old symbol)
+            (variables.nameless self.old serials.now) }
+        ensures counts { IsWithin (counts self.old) (counts self.new) }
+    {
+        self.give_up(serials);
+        let is_tag = matches!(self.symbol_meaning(symbol), Meaning::Tag(_));
+        if !is_tag {
+            self.use_root();
+        }
+        self.set_meaning(symbol, Meaning::Tag(root));
+    }
+
+    /// Uses up the next root.
+    fn use_root(&mut self)
+        requires { self.old.variables.roots ≢ 4294967295 }
+        ensures exact { self.new ≡ variables.with_next_root self.old }
+        ensures counts { IsWithin (counts self.old) (counts self.new) }
+    {
+        let Ok(_) = self.variables.new_root() else {
+            unreachable!()
+        };
     }
 
     /// Takes the names of unknowns away.

@@ -1,5 +1,5 @@
 -- The items of a file speak of no symbols but those of the table that its names were put into.
-use Rattle.std.proofs.Common.{◌≡◌, ℕ, ◌≤◌, max, List, [], ◌∷◌, ◌++◌, length, map, arith, refl}
+use Rattle.std.proofs.Common.{◌≡◌, ℕ, ◌≤◌, List, [], ◌∷◌, ◌++◌, length, arith}
 use Rattle.std.specs.Prelude.{All}
 use Rattle.std.proofs.lemmas.List.Elements.{All-head, All-tail}
 use Rattle.mp_symbols.specs.Names.{Names}
@@ -12,7 +12,7 @@ use Rattle.mp_values.specs.declared.turn.Pending.{Pending}
 use Rattle.mp_input.specs.Lines.{items_pending}
 use Rattle.mp_acts.specs.Counts.{Counts, nothing, most, greatest, IsWithin}
 use Rattle.mp_acts.specs.Reach.{reach_of_item}
-use Rattle.mp_rules.specs.Reach.{reach_of_pending, reach_of_text}
+use Rattle.mp_rules.specs.Reach.{reach_of_text}
 
 none_in : (n : Counts) → IsWithin nothing n
 none_in n = record { unknowns = omega arith; slots = omega arith; symbols = omega arith; internals = omega arith }

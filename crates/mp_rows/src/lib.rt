@@ -12,6 +12,8 @@ mod forms;
 #[cfg(test)]
 mod input;
 #[cfg(test)]
+mod macros;
+#[cfg(test)]
 mod report;
 #[cfg(test)]
 mod roots;

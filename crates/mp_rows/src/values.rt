@@ -156,7 +156,7 @@ fn faults(rt: HostRuntime) -> Result<(), Fail> {
 #[test]
 fn small_calls(rt: HostRuntime) {
     assert!(rt; UnbuiltWord::new(b"pair").name() == b"pair".as_slice());
-    assert!(rt; matches!(&Meaning::fresh().copy(), Meaning::NewTag));
+    assert!(rt; matches!(&Meaning::fresh().share(), Ok(Meaning::NewTag)));
     assert!(rt; Command::Show.name() == b"show".as_slice());
     assert!(rt; Scaled::new(-5).units() == -5);
 }

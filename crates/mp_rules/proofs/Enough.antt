@@ -1,12 +1,13 @@
 -- On the meaning: how far each rule goes, and that more rules inside one another than enough change nothing.
-use Rattle.std.proofs.Common.{◌≡◌, ◌<◌, ◌≤◌, ◌+◌, ◌*◌, ℕ, ℤ, List, [], ◌∷◌, ◌++◌, length, zero, suc, refl, sym, subst, ap, arith, Option, Some, None, Ok, Err, Bool, true, false}
+use Rattle.std.proofs.Common.{◌≡◌, ◌<◌, ◌≤◌, ◌+◌, ◌*◌, ℕ, ℤ, List, [], ◌∷◌, ◌++◌, length, zero, suc, refl, sym, subst, ap, ◌∙◌, arith, Option, Some, None, Ok, Err, Bool, true, false}
 use Rattle.std.specs.Prelude.{codes, nat_lt, if◌then◌else◌}
 use Rattle.std.proofs.lemmas.Bool.Decides.{nat_tests}
 use Rattle.mp_report.specs.declared.error.Cap.TheVariants as cap
 use Rattle.mp_report.specs.declared.error.SourceError.TheVariants as error
 use Rattle.mp_values.specs.Outcome.{◌>>=◌, lift, Refused}
+use Rattle.mp_values.specs.Outcome as outcomes
 use Rattle.mp_values.specs.Refusals.{not_built, bad_token}
-use Rattle.mp_values.specs.Words.{unary_of}
+use Rattle.mp_values.specs.Words.{unary_of, name_of_definition, definition_of}
 use Rattle.mp_values.specs.declared.item.Item.{Item}
 use Rattle.mp_values.specs.declared.item.Item.TheVariants as item
 use Rattle.mp_values.specs.declared.meaning.Delimiters.{Delimiters}
@@ -20,6 +21,7 @@ use Rattle.mp_values.specs.declared.value.Value.{Value}
 use Rattle.mp_values.specs.declared.value.Value.TheVariants as value
 use Rattle.mp_values.specs.declared.word.Command.{Command}
 use Rattle.mp_values.specs.declared.word.Command.TheVariants as command
+use Rattle.mp_values.specs.declared.word.Definition.{Definition}
 use Rattle.mp_values.specs.declared.word.Secondary.{Secondary as SecondaryOperator}
 use Rattle.mp_values.specs.declared.word.Secondary.TheVariants as operator
 use Rattle.mp_values.specs.declared.word.Speech.{Speech}
@@ -36,7 +38,11 @@ use Rattle.mp_acts.specs.State.{symbol_name, symbol_meaning, internal_value}
 use Rattle.mp_acts.specs.Arithmetic.{known_number, fraction}
 use Rattle.mp_acts.specs.Arithmetic as act
 use Rattle.mp_acts.specs.Suffixes.{suffix_string, string_token, subscript}
-use Rattle.mp_acts.specs.Variables.{root_of, read, declare}
+use Rattle.mp_acts.specs.Variables.{root_of, no_call, read, declare, define}
+use Rattle.mp_acts.specs.Definitions.{group_symbols}
+use Rattle.mp_macro.specs.Headings.{Reading}
+use Rattle.mp_macro.specs.Definitions.{start, is_whole, defined}
+use Rattle.mp_macro.specs.Definitions.{read as read_item}
 use Rattle.mp_acts.specs.Lines.{show, speak}
 use Rattle.mp_acts.specs.Groups.{begin_group, end_group, with_each, let_symbol, delimiters, interim}
 use Rattle.mp_acts.specs.declared.target.Target.TheVariants as target
@@ -44,6 +50,7 @@ use Rattle.mp_rules.specs.Machine.{Machine, weight, held_weight, coming, left}
 use Rattle.mp_rules.specs.Fronts.{front_of_meaning, taken_item, taken_as, refused_front, refused_raw, begins_primary, begins_factor, secondary_in, tertiary_in}
 use Rattle.mp_rules.specs.Steps.{take_first, take_from, enter, leave, see, see_string, hold}
 use Rattle.mp_rules.specs.Chains.{settle}
+use Rattle.mp_rules.specs.Definitions.{read_in, taken_read, unless_whole, read_on}
 use Rattle.mp_rules.specs.declared.front.Front.{Front}
 use Rattle.mp_rules.specs.declared.front.Front.TheVariants as front
 use Rattle.mp_rules.specs.declared.front.Taken.{Taken}
@@ -55,7 +62,7 @@ use Rattle.mp_rules.specs.declared.front.Raw.TheVariants as raw
 use Rattle.mp_rules.specs.declared.chain_side.ChainSide.{ChainSide as Side}
 use Rattle.mp_rules.specs.declared.chain_side.ChainSide.TheVariants as side
 use Rattle.mp_rules.specs.Rules.{Rules, What, NextFront, NextRaw, NumberThen, Factor, VariableName, Suffix, Group, PrimaryInside, Primary, Leading, SecondaryRest, Secondary, TertiaryRest, ExpressionFrom, Expression, ChainSide, ChainRest, Chain, ShowList, SymbolList, DeclaredName, TypeList, CommandRest, Statement, GroupStatements, Statements}
-use Rattle.mp_rules.specs.Rules.{shape_of, front_of_symbol, front_of, held_or_taken, next_front, raw_of, next_raw, symbol_in, raw_symbol, next_primary, next_expression, factor_by, over_by, then_by, number, room_by, room_for_part, part_on, bracket_by, bracketed, suffix_by, variable_name, variable, are_pair, closed_if, closed_by, parenthesis, group, string_primary, internal, str_primary, applied, applied_by, primary_by, primary, variable_side_by, internal_side_by, leading_by, leading, secondary_by, secondary, tertiary_by, expression_from, expression, side_from, chain_side, chain_on, lone_or_vacuous, chain_end, chain_by, chain, show_by, show_list, symbols_by, symbol_list, shape_on, empty_by, name_by, type_by, type_list, is_equals, equals_by, equals_in, raw_equals, let_equal, delimiter_pair, internal_in, assign_in, internal_name, assign_sign, interim_value, spoken, command_rest, chain_if, statement_by, may_stand_alone, more_by, group_more, group_by, group_statements, end_by, statements, case}
+use Rattle.mp_rules.specs.Rules.{shape_of, front_of_symbol, front_of, held_or_taken, next_front, raw_of, next_raw, symbol_in, raw_symbol, next_primary, next_expression, factor_by, over_by, then_by, number, room_by, room_for_part, part_on, bracket_by, bracketed, suffix_by, variable_name, variable, are_pair, closed_if, closed_by, parenthesis, group, string_primary, internal, str_primary, applied, applied_by, primary_by, primary, variable_side_by, internal_side_by, leading_by, leading, secondary_by, secondary, tertiary_by, expression_from, expression, side_from, chain_side, chain_on, lone_or_vacuous, chain_end, chain_by, chain, show_by, show_list, symbols_by, symbol_list, shape_on, empty_by, name_by, type_by, type_list, is_equals, equals_by, equals_in, raw_equals, let_equal, delimiter_pair, internal_in, assign_in, internal_name, assign_sign, interim_value, spoken, command_rest, definition, chain_if, statement_by, may_stand_alone, more_by, group_more, group_by, group_statements, end_by, statements, case}
 use Rattle.mp_rules.specs.Promises.{from, cost, used_by, used_by_side}
 use Rattle.mp_rules.specs.Meaning.{rule, the, depth}
 use Rattle.mp_rules.proofs.Agreement.{After, Agree, AsMany, agree-then, weaker, stopped, given, acted}
@@ -141,6 +148,7 @@ meaning-agrees symbol (meaning.Tag root) t = given (front.Tag symbol) t (λ next
 meaning-agrees symbol (meaning.Internal k) t = given (front.Internal symbol k) t (λ next u. u ≡ t) refl
 meaning-agrees symbol (meaning.Left pair) t = given (front.Left symbol pair) t (λ next u. u ≡ t) refl
 meaning-agrees symbol (meaning.Right pair) t = given (front.Right symbol pair) t (λ next u. u ≡ t) refl
+meaning-agrees symbol (meaning.Macro m) t = stopped (not_built (name_of_definition (definition_of m.level))) t (λ next u. u ≡ t) tt
 
 front_of_symbol-agrees : (symbol : ℕ) (b : ℕ) (t : Machine) → coming t + 1 ≤ b → Agree (front_of_symbol symbol t) (front_of_symbol symbol t) (λ next. Fewer b)
 front_of_symbol-agrees symbol b t p =
@@ -295,7 +303,8 @@ variable_name-agrees r1 r2 symbol s h =
     agree-then (acted (root_of symbol s.acts) s) (λ root t a.
     agree-then (h.at NextFront t (omega arith)) (λ next u p.
     agree-then (h.at (Suffix []) u (omega arith)) (λ parts w q.
-    given (root, parts) w (λ answer. Fewer (coming s)) (record { went = omega arith }))))
+    agree-then (acted (no_call root parts w.acts) w) (λ called y e.
+    given (root, parts) y (λ answer. Fewer (coming s)) (record { went = omega arith })))))
 
 variable-agrees : (r1 r2 : Rules) (symbol : ℕ) (m : ℕ) (s : Machine) → 64 * coming s + 2 < m → Below r1 r2 m
     → Agree (variable r1 symbol s) (variable r2 symbol s) (λ answer. Fewer (coming s))
@@ -679,6 +688,45 @@ command-agrees r1 r2 (command.Speech speech) s h = spoken-agrees r1 r2 speech _ 
 command-agrees r1 r2 (command.Mode m) s h = h.at NextFront s (omega arith)
 command-agrees r1 r2 (command.Type k) s h = h.at (TypeList k) s (omega arith)
 
+-- DEFINITIONS
+
+-- items were taken, and no front
+pub record Later (s t : Machine) : Type 0 where
+  pub went : left t ≤ left s
+  pub hand : weight t.front ≡ weight s.front
+
+read_in-agrees : (s : Machine) (o : outcomes.Outcome Reading (Unit {0})) → Agree (read_in s o) (read_in s o) (λ r. AsMany s)
+read_in-agrees s (Ok done) = record { same = refl; went = record { went = refl; hand = refl } }
+read_in-agrees s (Err refused) = record { same = refl; went = tt }
+
+taken_read-agrees : (r : Reading) (x : Option Pending) (s : Machine) → Agree (taken_read r x s) (taken_read r x s) (λ now. AsMany s)
+taken_read-agrees r None s = stopped (Refused error.FileEndedInText) s (λ now. AsMany s) tt
+taken_read-agrees r (Some (pending.Item x)) s = read_in-agrees s (read_item s.acts.symbols.names x r)
+taken_read-agrees r (Some (pending.Turn turn)) s = given r s (λ now. AsMany s) (record { went = refl; hand = refl })
+
+one_read : (x : Option Pending) (s t u : Machine) → TookOne x s t → AsMany t u → Later s u
+one_read x s t u p e = let same = ap weight p.hand in record { went = omega (arith, p.went, e.went, same); hand = e.hand ∙ same }
+
+read_on-agrees : (text : List Pending) (r : Reading) (s : Machine) → Agree (read_on text r s) (read_on text r s) (λ now. Later s)
+unfolding read_on
+read_on-agrees [] r s = agree-then (took s) (λ x t p. weaker (taken_read-agrees r x t) (λ now u e. one_read x s t u p e))
+read_on-agrees (x ∷ text) r s =
+    agree-then (took s) (λ y t p.
+    agree-then (taken_read-agrees r y t) (λ now u e.
+    let later = one_read y s t u p e in
+    elim (is_whole now) as (λ b. Agree (unless_whole b now (read_on text now) u) (unless_whole b now (read_on text now) u) (λ last. Later s)) [
+      | true ↦ given now u (λ last. Later s) later
+      | false ↦ weaker (read_on-agrees text now u) (λ last v q. record { went = omega (arith, later.went, q.went); hand = q.hand ∙ later.hand })
+    ]))
+
+definition-agrees : (r1 r2 : Rules) (w : Definition) (m : ℕ) (s : Machine) → 64 * coming s < m → Below r1 r2 m
+    → Agree (definition r1 w s) (definition r2 w s) (λ answer. Fewer (coming s))
+definition-agrees r1 r2 w m s c h =
+    let used : Machine = see front.EndOfText s in
+    agree-then (read_on-agrees used.text (start w group_symbols) used) (λ r t p.
+    agree-then (acted (define (defined r) t.acts) t) (λ done u e.
+    weaker (h.at NextFront u (omega (arith, p.went, e.went))) (λ next v q. record { went = omega (arith, p.went, e.went, q.went) })))
+
 -- STATEMENTS
 
 chain_if-agrees : (r1 r2 : Rules) (begins : Bool) (m : ℕ) (s : Machine) → 64 * left s + 12 ≤ m → Below r1 r2 m
@@ -693,6 +741,9 @@ statement_word-agrees r1 r2 symbol word.Endgroup m s e c h = given value.Vacuous
 statement_word-agrees r1 r2 symbol word.End m s e c h = given value.Vacuous s (λ answer. Fewer (left s)) (record { went = omega arith })
 statement_word-agrees r1 r2 symbol (word.Command k) m s e c h =
     agree-then (h.at (CommandRest k) s (omega arith)) (λ done t p.
+    given value.Vacuous t (λ answer. Fewer (left s)) (record { went = omega arith }))
+statement_word-agrees r1 r2 symbol (word.Definition w) m s e c h =
+    agree-then (definition-agrees r1 r2 w m s (omega arith) h) (λ done t p.
     given value.Vacuous t (λ answer. Fewer (left s)) (record { went = omega arith }))
 statement_word-agrees r1 r2 symbol w m s e c h = chain_if-agrees r1 r2 (begins_primary (front.Word symbol w)) m s c h
 

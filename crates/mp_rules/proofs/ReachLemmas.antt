@@ -1,5 +1,5 @@
 -- What is left of a text speaks of no more than the text.
-use Rattle.std.proofs.Common.{◌≡◌, ℕ, ◌≤◌, max, List, [], ◌∷◌, ◌++◌, Option, Some, None, Result, Ok, Err, refl, ap, ◌∙◌, arith}
+use Rattle.std.proofs.Common.{◌≡◌, ℕ, List, [], ◌∷◌, ◌++◌, Option, Some, None, Result, Ok, Err, refl, ap, ◌∙◌, arith}
 use Rattle.mp_scaled.specs.declared.no_memory.NoMemory.{NoMemory}
 use Rattle.mp_values.specs.declared.turn.Pending.{Pending}
 use Rattle.mp_input.specs.Unread.{Unread, Takes}

@@ -8,7 +8,7 @@ use Rattle.mp_values.specs.declared.turn.Pending.{Pending}
 use Rattle.mp_values.specs.declared.turn.Pending.TheVariants as pending
 use Rattle.mp_values.specs.declared.meaning.Meaning.{Meaning}
 use Rattle.mp_values.specs.declared.meaning.Meaning.TheVariants as meaning
-use Rattle.mp_values.specs.Words.{unary_of}
+use Rattle.mp_values.specs.Words.{unary_of, name_of_definition, definition_of}
 use Rattle.mp_values.specs.declared.word.Secondary.{Secondary}
 use Rattle.mp_values.specs.declared.word.Tertiary.{Tertiary}
 use Rattle.mp_values.specs.declared.word.Word.{Word}
@@ -40,7 +40,8 @@ taken_as (Some (pending.Item x)) = taken_item x
 taken_as (Some (pending.Turn turn)) = taken.Passed
 taken_as None = taken.Nothing
 
--- a symbol that means this, as a front; a word that is not built is refused as soon as it is one
+-- a symbol that means this, as a front; a word that is not built is refused as soon as it is one, and so is a macro, whose
+-- calls are not built, by the word that defined it
 abbrev pub front_of_meaning : ℕ → Meaning → Rule Front
 front_of_meaning symbol (meaning.Word w) = give (front.Word symbol w)
 front_of_meaning symbol (meaning.Unbuilt name) = halt (not_built name)
@@ -49,6 +50,7 @@ front_of_meaning symbol (meaning.Tag root) = give (front.Tag symbol)
 front_of_meaning symbol (meaning.Internal k) = give (front.Internal symbol k)
 front_of_meaning symbol (meaning.Left pair) = give (front.Left symbol pair)
 front_of_meaning symbol (meaning.Right pair) = give (front.Right symbol pair)
+front_of_meaning symbol (meaning.Macro m) = halt (not_built (name_of_definition (definition_of m.level)))
 
 abbrev pub symbol_front : ℕ → Rule Front
 symbol_front symbol s = front_of_meaning symbol (symbol_meaning s.acts symbol) s

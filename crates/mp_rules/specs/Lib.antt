@@ -3,6 +3,7 @@ pub mod Reach
 pub mod Fronts
 pub mod Steps
 pub mod Chains
+pub mod Definitions
 pub mod Rules
 pub mod Meaning
 pub mod Promises

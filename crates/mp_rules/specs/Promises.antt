@@ -5,6 +5,7 @@ use Rattle.mp_values.specs.declared.stop.Stop.{Stop}
 use Rattle.mp_values.specs.declared.turn.Pending.{Pending}
 use Rattle.mp_values.specs.declared.value.Value.{Value}
 use Rattle.mp_acts.specs.Counts.{Counts, nothing, greatest, IsWithin}
+use Rattle.mp_macro.specs.Headings.{Reading}
 use Rattle.mp_acts.specs.Reach.{reach, reach_of_part, one_symbol, one_internal}
 use Rattle.mp_rules.specs.Reach.{reach_of_raw, reach_of_first}
 use Rattle.mp_rules.specs.Machine.{Machine, Rule, coming, left, things}
@@ -96,6 +97,13 @@ UsesSymbol does result old new = Reads does (coming old) (λ answer. 0) one_symb
 
 abbrev pub UsesInternal : Rule ℕ → Result ℕ Stop → Machine → Machine → Type 0
 UsesInternal does result old new = Reads does (coming old) (λ answer. 0) one_internal result old new
+
+-- the same of a definition that is read: its symbol is there
+abbrev pub ActsReading : Rule Reading → Result Reading Stop → Machine → Machine → Type 0
+ActsReading does result old new = Reads does (left old) (λ r. 0) (λ r. one_symbol r.symbol) result old new
+
+abbrev pub UsesReading : Rule Reading → Result Reading Stop → Machine → Machine → Type 0
+UsesReading does result old new = Reads does (coming old) (λ r. 0) (λ r. one_symbol r.symbol) result old new
 
 -- what was taken costs a step, and nothing where nothing was left
 abbrev pub cost : Option Pending → ℕ

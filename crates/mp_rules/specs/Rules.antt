@@ -16,6 +16,7 @@ use Rattle.mp_values.specs.declared.value.Value.{Value}
 use Rattle.mp_values.specs.declared.value.Value.TheVariants as value
 use Rattle.mp_values.specs.declared.word.Command.{Command}
 use Rattle.mp_values.specs.declared.word.Command.TheVariants as command
+use Rattle.mp_values.specs.declared.word.Definition.{Definition}
 use Rattle.mp_values.specs.declared.word.Secondary.{Secondary as SecondaryOperator}
 use Rattle.mp_values.specs.declared.word.Secondary.TheVariants as operator
 use Rattle.mp_values.specs.declared.word.Speech.{Speech}
@@ -27,11 +28,13 @@ use Rattle.mp_vartree.specs.declared.names.Part.{Part}
 use Rattle.mp_vartree.specs.declared.names.Part.TheVariants as part
 use Rattle.mp_vartree.specs.declared.names.Shape.{Shape}
 use Rattle.mp_vartree.specs.declared.names.Shape.TheVariants as shape
+use Rattle.mp_macro.specs.Definitions.{start, defined}
 use Rattle.mp_acts.specs.State.{symbol_name, symbol_meaning}
 use Rattle.mp_acts.specs.Arithmetic.{known_number, fraction}
 use Rattle.mp_acts.specs.Arithmetic as act
 use Rattle.mp_acts.specs.Suffixes.{suffix_string, string_token, subscript}
-use Rattle.mp_acts.specs.Variables.{root_of, read, declare}
+use Rattle.mp_acts.specs.Variables.{root_of, no_call, read, declare, define}
+use Rattle.mp_acts.specs.Definitions.{group_symbols}
 use Rattle.mp_acts.specs.Lines.{show, speak}
 use Rattle.mp_acts.specs.Groups.{begin_group, end_group, with_each, let_symbol, delimiters, interim}
 use Rattle.mp_acts.specs.declared.target.Target.TheVariants as target
@@ -39,6 +42,7 @@ use Rattle.mp_rules.specs.Machine.{Rule}
 use Rattle.mp_rules.specs.Fronts.{symbol_front, taken_as, secondary_in, tertiary_in, begins_primary, begins_factor}
 use Rattle.mp_rules.specs.Steps.{take_first, enter, leave, see, see_string, hold, string_in_hand, acting, internal_number, unexpected, unexpected_raw}
 use Rattle.mp_rules.specs.Chains.{settle}
+use Rattle.mp_rules.specs.Definitions.{definition_read}
 use Rattle.mp_rules.specs.declared.front.Front.{Front}
 use Rattle.mp_rules.specs.declared.front.Front.TheVariants as front
 use Rattle.mp_rules.specs.declared.front.Taken.{Taken}
@@ -264,12 +268,13 @@ suffix_by rule parts x = give parts
 abbrev pub suffix : Rules → List Part → Rule (List Part)
 suffix rule parts s = suffix_by rule parts s.front s
 
--- the root of a tag and the parts behind it
+-- the root of a tag and the parts behind it. A name that begins with that of a macro is refused: calls are not built
 abbrev pub variable_name : Rules → ℕ → Rule (ℕ × List Part)
 variable_name rule symbol = do
   root ← acting (root_of symbol)
   next ← rule NextFront
   parts ← rule (Suffix [])
+  called ← acting (no_call root parts)
   give (root, parts)
 
 -- a variable is read when the front behind its name was got
@@ -654,6 +659,15 @@ command_rest rule (command.Speech speech) = spoken rule speech
 command_rest rule (command.Mode m) = rule NextFront
 command_rest rule (command.Type kind) = rule (TypeList kind)
 
+-- DEFINITIONS
+
+-- a definition, which takes effect before the front behind it is got
+abbrev pub definition : Rules → Definition → Rule (Unit {0})
+definition rule w = do
+  r ← definition_read (start w group_symbols)
+  done ← acting (define (defined r))
+  rule NextFront
+
 -- STATEMENTS
 
 abbrev pub chain_if : Rules → Bool → Rule Value
@@ -668,6 +682,9 @@ statement_by rule (front.Word symbol word.End) = give value.Vacuous
 statement_by rule front.EndOfText = give value.Vacuous
 statement_by rule (front.Word symbol (word.Command c)) = do
   done ← rule (CommandRest c)
+  give value.Vacuous
+statement_by rule (front.Word symbol (word.Definition w)) = do
+  done ← definition rule w
   give value.Vacuous
 statement_by rule x = chain_if rule (begins_primary x)
 

@@ -17,6 +17,7 @@ ghost use Rattle.mp_rules.specs.Steps.{acting, internal_number};
 
 use crate::chain_side::ChainSide;
 use crate::evaluator::Evaluator;
+use mp_macro::Defined;
 use mp_scaled::SharedSlice;
 use mp_values::{Kind, Scaled, Secondary, Speech, Stop, SymbolCommand, Tertiary, Unary, Value};
 use mp_vartree::{Pattern, Suffix};
@@ -104,6 +105,23 @@ impl Evaluator {
         ensures { Acts (acting (variables.declare symbol name kind)) result self.old self.new }
     {
         Ok(self.acts.do_declare(symbol, name.as_slice(), kind)?)
+    }
+
+    /// Defines a macro.
+    #[tactic(auto, using(crate::proofs::Stops::fault_stops))]
+    pub(crate) fn define(&mut self, made: Defined) -> Result<(), Stop>
+        requires { made.symbol < symbol_count self.old.acts }
+        ensures { Acts (acting (variables.define made)) result self.old self.new }
+    {
+        Ok(self.acts.do_define(made)?)
+    }
+
+    /// Refuses a name that begins with that of a macro.
+    #[tactic(auto, using(crate::proofs::Stops::fault_stops))]
+    pub(crate) fn no_call(&self, root: u32, name: &Suffix) -> Result<(), Stop>
+        ensures { Acts (acting (variables.no_call root name.now)) result self.now self.now }
+    {
+        Ok(self.acts.no_call(root, name.as_slice())?)
     }
 
     /// The text of a suffix, as a string.
@@ -199,13 +217,13 @@ impl Evaluator {
     }
 
     /// Gives a symbol the meaning of another.
-    pub(crate) fn let_symbol(&mut self, symbol: u32, other: u32)
+    #[tactic(auto, using(crate::proofs::Stops::fault_stops))]
+    pub(crate) fn let_symbol(&mut self, symbol: u32, other: u32) -> Result<(), Stop>
         requires symbol { symbol < symbol_count self.old.acts }
         requires other { other < symbol_count self.old.acts }
-        ensures exact { self.new ≡ record self.old { acts = groups.let_symbol symbol other self.old.acts } }
-        ensures grown { IsWithin (things self.old) (things self.new) }
+        ensures { Acts (acting (change (groups.let_symbol symbol other))) result self.old self.new }
     {
-        self.acts.do_let(symbol, other);
+        Ok(self.acts.do_let(symbol, other)?)
     }
 
     /// Makes two symbols a pair of delimiters.

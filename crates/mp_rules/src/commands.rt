@@ -81,7 +81,7 @@ impl Evaluator {
         let symbol = self.raw_symbol()?;
         self.equals()?;
         let other = self.raw_symbol()?;
-        self.let_symbol(symbol, other);
+        self.let_symbol(symbol, other)?;
         self.next_front()
     }
 

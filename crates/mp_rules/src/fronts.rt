@@ -56,6 +56,10 @@ impl Evaluator {
             Meaning::Internal(k) => Ok(Front::Internal(symbol, *k)),
             Meaning::Left(pair) => Ok(Front::Left(symbol, *pair)),
             Meaning::Right(pair) => Ok(Front::Right(symbol, *pair)),
+            Meaning::Macro(m) => Err(Stop::not_built(
+                self.alloc,
+                m.get().level.definition().name(),
+            )),
         }
     }
 

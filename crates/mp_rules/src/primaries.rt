@@ -99,6 +99,7 @@ impl Evaluator {
         let root = self.root_of(symbol)?;
         self.next_front()?;
         let parts = self.suffix()?;
+        self.no_call(root, &parts)?;
         Ok((root, parts))
     }
 

@@ -25,6 +25,10 @@ impl Evaluator {
                 self.command_rest(command)?;
                 Ok(Value::Vacuous)
             }
+            Front::Word(_, Word::Definition(word)) => {
+                self.definition(word)?;
+                Ok(Value::Vacuous)
+            }
             sign => if sign.begins_primary() {
                 self.chain()
             } else {

@@ -28,9 +28,13 @@ error_of_token bad.Enormous = error.EnormousNumber
 abbrev pub bad_token : BadToken → Cause
 bad_token cause = Refused (error_of_token cause)
 
--- a word that is not built is refused as soon as it is met
+-- a word that is not built
+abbrev pub unbuilt : List ℕ → SourceError
+unbuilt word = error.NotBuilt word
+
+-- it is refused as soon as it is met
 abbrev pub not_built : List ℕ → Cause
-not_built word = Refused (error.NotBuilt word)
+not_built word = Refused (unbuilt word)
 
 abbrev pub unexpected : List ℕ → List ℕ → Cause
 unexpected wanted stood = Refused (error.Unexpected wanted stood)

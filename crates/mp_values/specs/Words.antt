@@ -1,9 +1,17 @@
 -- The words that are built: their names, and what they are as operators.
 use Rattle.std.specs.Prelude.{ℕ, List, [], ◌∷◌, Option, Some, None, codes}
+use Rattle.mp_values.specs.declared.macros.Level.{Level}
+use Rattle.mp_values.specs.declared.macros.Level.TheVariants as level
 use Rattle.mp_values.specs.declared.value.Kind.{Kind}
 use Rattle.mp_values.specs.declared.value.Kind.TheVariants as kind
+use Rattle.mp_values.specs.declared.word.CalledName.{CalledName}
+use Rattle.mp_values.specs.declared.word.CalledName.TheVariants as called_name
 use Rattle.mp_values.specs.declared.word.Command.{Command}
 use Rattle.mp_values.specs.declared.word.Command.TheVariants as command
+use Rattle.mp_values.specs.declared.word.Definition.{Definition}
+use Rattle.mp_values.specs.declared.word.Definition.TheVariants as definition
+use Rattle.mp_values.specs.declared.word.Parameter.{Parameter}
+use Rattle.mp_values.specs.declared.word.Parameter.TheVariants as parameter
 use Rattle.mp_values.specs.declared.word.SymbolCommand.{SymbolCommand}
 use Rattle.mp_values.specs.declared.word.SymbolCommand.TheVariants as symbol_command
 use Rattle.mp_values.specs.declared.word.Speech.{Speech}
@@ -50,6 +58,35 @@ name_of_command (command.Speech s) = name_of_speech s
 name_of_command (command.Mode m) = name_of_mode m
 name_of_command (command.Type kind) = name_of_kind kind
 
+abbrev pub name_of_definition : Definition → List ℕ
+name_of_definition definition.Def = codes "def"
+name_of_definition definition.Vardef = codes "vardef"
+name_of_definition definition.Primarydef = codes "primarydef"
+name_of_definition definition.Secondarydef = codes "secondarydef"
+name_of_definition definition.Tertiarydef = codes "tertiarydef"
+
+-- the word that defines a macro which is called so
+abbrev pub definition_of : Level → Definition
+definition_of level.Plain = definition.Def
+definition_of level.Variable = definition.Vardef
+definition_of level.Suffixed = definition.Vardef
+definition_of level.Primary = definition.Primarydef
+definition_of level.Secondary = definition.Secondarydef
+definition_of level.Tertiary = definition.Tertiarydef
+
+abbrev pub name_of_parameter : Parameter → List ℕ
+name_of_parameter parameter.Primary = codes "primary"
+name_of_parameter parameter.Secondary = codes "secondary"
+name_of_parameter parameter.Tertiary = codes "tertiary"
+name_of_parameter parameter.Expr = codes "expr"
+name_of_parameter parameter.Suffix = codes "suffix"
+name_of_parameter parameter.Text = codes "text"
+
+abbrev pub name_of_called_name : CalledName → List ℕ
+name_of_called_name called_name.Before = codes "#@"
+name_of_called_name called_name.Last = codes "@"
+name_of_called_name called_name.Behind = codes "@#"
+
 abbrev pub name_of_unary : Unary → List ℕ
 name_of_unary unary.Plus = codes "+"
 name_of_unary unary.Minus = codes "-"
@@ -76,19 +113,30 @@ name_of_word word.Begingroup = codes "begingroup"
 name_of_word word.Endgroup = codes "endgroup"
 name_of_word word.End = codes "end"
 name_of_word (word.Command c) = name_of_command c
+name_of_word (word.Definition d) = name_of_definition d
+name_of_word word.Enddef = codes "enddef"
+name_of_word (word.Parameter p) = name_of_parameter p
+name_of_word word.Of = codes "of"
+name_of_word (word.CalledName p) = name_of_called_name p
 
--- the words, in the order in which they get their numbers
+-- the words, in the order in which they get their numbers; those of groups are the first
 abbrev pub words : List Word
 words =
-    word.Tertiary tertiary.Plus ∷ word.Tertiary tertiary.Minus ∷ word.Secondary secondary.Times ∷ word.Secondary secondary.Over
+    word.Begingroup ∷ word.Endgroup
+    ∷ word.Tertiary tertiary.Plus ∷ word.Tertiary tertiary.Minus ∷ word.Secondary secondary.Times ∷ word.Secondary secondary.Over
     ∷ word.Comma ∷ word.Semicolon ∷ word.Equals ∷ word.Assign
-    ∷ word.LeftBracket ∷ word.RightBracket ∷ word.Str ∷ word.Begingroup ∷ word.Endgroup ∷ word.End
+    ∷ word.LeftBracket ∷ word.RightBracket ∷ word.Str ∷ word.End
     ∷ word.Command command.Show ∷ word.Command (command.Symbols symbol_command.Save) ∷ word.Command command.Interim
     ∷ word.Command command.Let ∷ word.Command command.Delimiters ∷ word.Command (command.Symbols symbol_command.Newinternal)
     ∷ word.Command (command.Speech speech.Message) ∷ word.Command (command.Speech speech.Errmessage) ∷ word.Command (command.Speech speech.Errhelp)
     ∷ word.Command (command.Mode mode.Batch) ∷ word.Command (command.Mode mode.Scroll)
     ∷ word.Command (command.Mode mode.Nonstop) ∷ word.Command (command.Mode mode.Errorstop)
     ∷ word.Command (command.Type kind.Boolean) ∷ word.Command (command.Type kind.Numeric) ∷ word.Command (command.Type kind.Text)
+    ∷ word.Definition definition.Def ∷ word.Definition definition.Vardef ∷ word.Definition definition.Primarydef
+    ∷ word.Definition definition.Secondarydef ∷ word.Definition definition.Tertiarydef ∷ word.Enddef
+    ∷ word.Parameter parameter.Primary ∷ word.Parameter parameter.Secondary ∷ word.Parameter parameter.Tertiary
+    ∷ word.Parameter parameter.Expr ∷ word.Parameter parameter.Suffix ∷ word.Parameter parameter.Text ∷ word.Of
+    ∷ word.CalledName called_name.Before ∷ word.CalledName called_name.Last ∷ word.CalledName called_name.Behind
     ∷ []
 
 -- the operator that a word is before a primary, if it is one

@@ -70,6 +70,13 @@ impl Fault {
         refused(Bytes::copy_of(alloc, op).map(SourceError::WrongType))
     }
 
+    /// The refusal of what is not built.
+    pub fn not_built(alloc: Global, what: &[u8]) -> Fault
+        ensures { IsFault result (refusals.unbuilt what.now) }
+    {
+        refused(Bytes::copy_of(alloc, what).map(SourceError::NotBuilt))
+    }
+
     /// The refusal of an unknown where the operator or word needs a known value.
     pub fn not_known(alloc: Global, op: &[u8]) -> Fault
         ensures { IsFault result (refusals.not_known op.now) }

@@ -27,4 +27,7 @@ pub use scaled::Scaled;
 pub use stop::Stop;
 pub use turn::{LeftOver, Pending, Suffixes, Turn, Values};
 pub use value::{Kind, Value};
-pub use word::{Command, Mode, Secondary, Speech, SymbolCommand, Tertiary, Unary, Word};
+pub use word::{
+    CalledName, Command, Definition, Mode, Parameter, Secondary, Speech, SymbolCommand, Tertiary,
+    Unary, Word,
+};

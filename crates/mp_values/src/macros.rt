@@ -1,6 +1,9 @@
 //! Macros.
 
-use crate::Items;
+ghost use Rattle.std.specs.Prelude.{◌≡◌};
+ghost use Rattle.mp_values.specs.Words as words;
+
+use crate::{Definition, Items};
 use mp_scaled::{Listing, Shared};
 
 /// What a parameter of a macro takes.
@@ -43,6 +46,21 @@ pub enum Level {
     Secondary,
     /// Between a tertiary and an expression.
     Tertiary,
+}
+
+impl Level {
+    /// The word that defines a macro which is called so.
+    pub fn definition(self) -> Definition
+        ensures { result ≡ words.definition_of self }
+    {
+        match self {
+            Level::Plain => Definition::Def,
+            Level::Variable | Level::Suffixed => Definition::Vardef,
+            Level::Primary => Definition::Primarydef,
+            Level::Secondary => Definition::Secondarydef,
+            Level::Tertiary => Definition::Tertiarydef,
+        }
+    }
 }
 
 /// What the parameters of a macro take, in order.

@@ -1,9 +1,10 @@
 //! What a symbol means.
 
-ghost use Rattle.std.specs.Prelude.{◌≡◌};
+ghost use Rattle.std.specs.Prelude.{◌≡◌, IfOk};
 ghost use Rattle.mp_values.specs.declared.meaning.Meaning.TheVariants.{NewTag};
 
-use crate::Word;
+use crate::{Macro, Word};
+use mp_scaled::{NoMemory, Shared};
 use mp_tokens::FreshMeaning;
 use std::marker::Model;
 
@@ -61,21 +62,24 @@ pub enum Meaning {
     Left(Delimiters),
     /// The right one of two delimiters.
     Right(Delimiters),
+    /// A macro that is called by the symbol.
+    Macro(Shared<Macro>),
 }
 
 impl Meaning {
-    /// The meaning once more.
-    pub fn copy(&self) -> Meaning
-        ensures { result ≡ self.now }
+    /// The meaning once more; a macro is shared.
+    pub fn share(&self) -> Result<Meaning, NoMemory>
+        ensures { IfOk result (λ meaning. meaning ≡ self.now) }
     {
         match self {
-            Meaning::Word(word) => Meaning::Word(*word),
-            Meaning::Unbuilt(word) => Meaning::Unbuilt(UnbuiltWord::new(word.name())),
-            Meaning::NewTag => Meaning::NewTag,
-            Meaning::Tag(root) => Meaning::Tag(*root),
-            Meaning::Internal(number) => Meaning::Internal(*number),
-            Meaning::Left(pair) => Meaning::Left(*pair),
-            Meaning::Right(pair) => Meaning::Right(*pair),
+            Meaning::Word(word) => Ok(Meaning::Word(*word)),
+            Meaning::Unbuilt(word) => Ok(Meaning::Unbuilt(UnbuiltWord::new(word.name()))),
+            Meaning::NewTag => Ok(Meaning::NewTag),
+            Meaning::Tag(root) => Ok(Meaning::Tag(*root)),
+            Meaning::Internal(number) => Ok(Meaning::Internal(*number)),
+            Meaning::Left(pair) => Ok(Meaning::Left(*pair)),
+            Meaning::Right(pair) => Ok(Meaning::Right(*pair)),
+            Meaning::Macro(m) => Ok(Meaning::Macro(m.share()?)),
         }
     }
 }

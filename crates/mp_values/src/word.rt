@@ -70,6 +70,43 @@ pub enum Tertiary {
     Minus,
 }
 
+/// A word that begins the definition of a macro.
+#[derive(Clone, Copy, Debug, PartialEq, Eq)]
+pub enum Definition {
+    /// Of a symbol.
+    Def,
+    /// Of a variable.
+    Vardef,
+    /// Of an operator that joins primaries.
+    Primarydef,
+    /// Of an operator that joins secondaries.
+    Secondarydef,
+    /// Of an operator that joins tertiaries.
+    Tertiarydef,
+}
+
+/// A word for what a parameter of a macro takes.
+#[derive(Clone, Copy, Debug, PartialEq, Eq)]
+pub enum Parameter {
+    Primary,
+    Secondary,
+    Tertiary,
+    Expr,
+    Suffix,
+    Text,
+}
+
+/// A word that stands, in the macro of a variable, for a part of the name that it is called by.
+#[derive(Clone, Copy, Debug, PartialEq, Eq)]
+pub enum CalledName {
+    /// What stands before the last part.
+    Before,
+    /// The last part.
+    Last,
+    /// What stands behind the name of the macro.
+    Behind,
+}
+
 /// A word of the language that is built.
 #[derive(Clone, Copy, Debug, PartialEq, Eq)]
 pub enum Word {
@@ -87,6 +124,12 @@ pub enum Word {
     Endgroup,
     End,
     Command(Command),
+    Definition(Definition),
+    Enddef,
+    Parameter(Parameter),
+    /// It stands between the two parameters of an operand with two parts.
+    Of,
+    CalledName(CalledName),
 }
 
 impl SymbolCommand {
@@ -146,6 +189,50 @@ impl Command {
     }
 }
 
+impl Definition {
+    /// The symbol that means the word at the start of a run.
+    pub fn name(self) -> &'static [u8]
+        ensures { result.now ≡ words.name_of_definition self }
+    {
+        match self {
+            Definition::Def => b"def",
+            Definition::Vardef => b"vardef",
+            Definition::Primarydef => b"primarydef",
+            Definition::Secondarydef => b"secondarydef",
+            Definition::Tertiarydef => b"tertiarydef",
+        }
+    }
+}
+
+impl Parameter {
+    /// The symbol that means the word at the start of a run.
+    pub fn name(self) -> &'static [u8]
+        ensures { result.now ≡ words.name_of_parameter self }
+    {
+        match self {
+            Parameter::Primary => b"primary",
+            Parameter::Secondary => b"secondary",
+            Parameter::Tertiary => b"tertiary",
+            Parameter::Expr => b"expr",
+            Parameter::Suffix => b"suffix",
+            Parameter::Text => b"text",
+        }
+    }
+}
+
+impl CalledName {
+    /// The symbol that means the word at the start of a run.
+    pub fn name(self) -> &'static [u8]
+        ensures { result.now ≡ words.name_of_called_name self }
+    {
+        match self {
+            CalledName::Before => b"#@",
+            CalledName::Last => b"@",
+            CalledName::Behind => b"@#",
+        }
+    }
+}
+
 impl Unary {
     /// The symbol that means the operator at the start of a run.
     pub fn name(self) -> &'static [u8]
@@ -184,7 +271,9 @@ impl Tertiary {
 
 impl Word {
     /// Each word once, in the order in which they get their numbers.
-    pub const ALL: [Word; 30] = [
+    pub const ALL: [Word; 46] = [
+        Word::Begingroup,
+        Word::Endgroup,
         Word::Tertiary(Tertiary::Plus),
         Word::Tertiary(Tertiary::Minus),
         Word::Secondary(Secondary::Times),
@@ -196,8 +285,6 @@ impl Word {
         Word::LeftBracket,
         Word::RightBracket,
         Word::Str,
-        Word::Begingroup,
-        Word::Endgroup,
         Word::End,
         Word::Command(Command::Show),
         Word::Command(Command::Symbols(SymbolCommand::Save)),
@@ -215,6 +302,22 @@ impl Word {
         Word::Command(Command::Type(Kind::Boolean)),
         Word::Command(Command::Type(Kind::Numeric)),
         Word::Command(Command::Type(Kind::Text)),
+        Word::Definition(Definition::Def),
+        Word::Definition(Definition::Vardef),
+        Word::Definition(Definition::Primarydef),
+        Word::Definition(Definition::Secondarydef),
+        Word::Definition(Definition::Tertiarydef),
+        Word::Enddef,
+        Word::Parameter(Parameter::Primary),
+        Word::Parameter(Parameter::Secondary),
+        Word::Parameter(Parameter::Tertiary),
+        Word::Parameter(Parameter::Expr),
+        Word::Parameter(Parameter::Suffix),
+        Word::Parameter(Parameter::Text),
+        Word::Of,
+        Word::CalledName(CalledName::Before),
+        Word::CalledName(CalledName::Last),
+        Word::CalledName(CalledName::Behind),
     ];
 
     /// The symbol that means the word at the start of a run.
@@ -235,6 +338,11 @@ impl Word {
             Word::Endgroup => b"endgroup",
             Word::End => b"end",
             Word::Command(command) => command.name(),
+            Word::Definition(definition) => definition.name(),
+            Word::Enddef => b"enddef",
+            Word::Parameter(parameter) => parameter.name(),
+            Word::Of => b"of",
+            Word::CalledName(part) => part.name(),
         }
     }
 

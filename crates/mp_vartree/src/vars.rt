@@ -79,6 +79,17 @@ impl Vars {
         }
     }
 
+    /// The root that `new_root` would give; want of memory exactly where it would answer that.
+    pub fn next_root(&self) -> Result<u32, NoMemory>
+        ensures root { IfOk result (λ root. root ≡ self.now.roots) }
+        ensures full { IsErr result ↔ (self.now.roots ≡ 4294967295) }
+    {
+        match self.roots {
+            u32::MAX => Err(NoMemory),
+            root => Ok(root),
+        }
+    }
+
     /// Gives a pattern a type, and forgets exactly the variables that match it. Below the name of a macro it is
     /// refused, and nothing changes.
     ///

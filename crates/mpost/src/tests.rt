@@ -67,7 +67,7 @@ fn run_text(alloc: Global, text: &str) -> Result<Left, Fail> {
 }
 
 /// A source text, what is written and the status.
-const TEXTS: [(&str, &str, u8); 50] = [
+const TEXTS: [(&str, &str, u8); 69] = [
     ("show 1/3+2;end", ">> 2.33333\n", 0),
     ("show -1+2, 3/4;\n", ">> 1\n>> 0.75\n", 0),
     (
@@ -222,6 +222,101 @@ const TEXTS: [(&str, &str, u8); 50] = [
     ),
     ("show 7;end \u{1} 32768 \"", ">> 7\n", 0),
     ("\n\nshow path;", "a.mp:3: error 29 NotBuilt path\n", 1),
+    (
+        "def f(expr a,b)(suffix s)(text t)\nexpr x of y=\nshow a;\nenddef; show 1;\nf;",
+        ">> 1\na.mp:5: error 29 NotBuilt def\n",
+        1,
+    ),
+    (
+        "vardef a.b[]c@#(expr x) primary p:=\nx+p enddef; show 2;\nshow a.b3c.d;",
+        ">> 2\na.mp:3: error 29 NotBuilt vardef\n",
+        1,
+    ),
+    (
+        "primarydef a ** b=a*b\nenddef; show 3\n** 2;",
+        "a.mp:3: error 29 NotBuilt primarydef\n",
+        1,
+    ),
+    (
+        "secondarydef a dot b=a enddef; show dot;",
+        "a.mp:1: error 29 NotBuilt secondarydef\n",
+        1,
+    ),
+    (
+        "tertiarydef a _on_ b=a enddef; show _on_;",
+        "a.mp:1: error 29 NotBuilt tertiarydef\n",
+        1,
+    ),
+    (
+        "def f=def g=1 enddef;\nenddef; let d=def; d h=2 enddef; show 3;",
+        ">> 3\n",
+        0,
+    ),
+    (
+        "def f(text enddef)=\nenddef;\nend",
+        "a.mp:3: error 6 FileEndedInText\n",
+        1,
+    ),
+    (
+        "def f=1 enddef; begingroup save f; f=2; show f; endgroup; f;",
+        ">> 2\na.mp:1: error 29 NotBuilt def\n",
+        1,
+    ),
+    (
+        "a.c.d=1; vardef a.c=2 enddef; numeric a.c; show a.c.d;",
+        ">> a.c.d\n",
+        0,
+    ),
+    (
+        "vardef a=1 enddef;\nvardef a.b=2 enddef;",
+        "a.mp:2: error 20 BadDeclaration\n",
+        1,
+    ),
+    (
+        "vardef a=1 enddef;\nnumeric a.b;",
+        "a.mp:2: error 20 BadDeclaration\n",
+        1,
+    ),
+    (
+        "def\n3=x enddef;",
+        "a.mp:2: error 7 Unexpected \"symbol\" \"number\"\n",
+        1,
+    ),
+    (
+        "def f(3)=x enddef;",
+        "a.mp:1: error 7 Unexpected \"symbol\" \"number\"\n",
+        1,
+    ),
+    (
+        "def f(expr a\n;b)=x enddef;",
+        "a.mp:2: error 7 Unexpected \")\" \";\"\n",
+        1,
+    ),
+    (
+        "def f expr a b=x enddef;",
+        "a.mp:1: error 7 Unexpected \"=\" \"b\"\n",
+        1,
+    ),
+    (
+        "primarydef a b c:=x enddef;",
+        "a.mp:1: error 7 Unexpected \"=\" \":=\"\n",
+        1,
+    ),
+    (
+        "vardef a3=x enddef;",
+        "a.mp:1: error 20 BadDeclaration\n",
+        1,
+    ),
+    (
+        "vardef a[2]=x enddef;",
+        "a.mp:1: error 20 BadDeclaration\n",
+        1,
+    ),
+    (
+        "def f=\n32768 enddef;",
+        "a.mp:2: error 3 EnormousNumber\n",
+        1,
+    ),
 ];
 
 fn expect_texts(rt: &impl Abort, alloc: Global, rows: &[(&str, &str, u8)]) -> Result<(), Fail> {
@@ -388,7 +483,7 @@ type Repeated = (
 );
 
 /// Names have 50 parts, strings and texts 65536 bytes.
-const LONG: [Repeated; 12] = [
+const LONG: [Repeated; 15] = [
     (
         "show a",
         ".b",
@@ -411,6 +506,21 @@ const LONG: [Repeated; 12] = [
         "a.mp:1: error 28 Limit Suffix 50\n",
     ),
     ("a", "[1]", 50, "=7; show 2;\n", ">> 2\n"),
+    ("def f(expr a", ",a", 63, ")=enddef; show 3;", ">> 3\n"),
+    (
+        "def f(expr a",
+        ",a",
+        64,
+        ")=enddef; show 3;",
+        "a.mp:1: error 28 Limit Params 64\n",
+    ),
+    (
+        "vardef a",
+        ".b",
+        51,
+        "=enddef;",
+        "a.mp:1: error 28 Limit Suffix 50\n",
+    ),
     (
         "b=-32767.99998; show str ",
         "a",

@@ -1,6 +1,6 @@
 use Rattle.std.proofs.Common.{rules}
 use Rattle.mp_acts.proofs.EventLemmas.{no_events}
-use Rattle.mp_acts.proofs.MeaningLemmas.{first_meanings, first_saved}
+use Rattle.mp_acts.proofs.MeaningLemmas.{first_meanings, first_saved, first_words}
 use Rattle.mp_acts.proofs.state.State.new.Goals as goal
 
 pub invariant_of-result : goal.invariant_of-result
@@ -8,6 +8,7 @@ invariant_of-result c = record {
   counted = search rules;
   within = record {
     few = search rules;
+    words = first_words _ c.in_ok-first_symbols.ensures;
     forms = search rules;
     held = search rules;
     filled = search rules;

@@ -6,8 +6,7 @@ use Rattle.mp_rules.proofs.evaluator.Evaluator.take.Goals as goal
 
 pub invariant_of-self-in-Some : goal.invariant_of-self-in-Some
 invariant_of-self-in-Some c =
-    let readable = c.self.invariant.1 in
-    (
+    let readable = c.self.invariant.1 in (
       omega (arith, c.if-self.true),
       record {
         within_text = left_within (counts c.self.inside.acts) c.self.inside.input c.take.new.self c.take.result c.take.ensures readable.within_text;

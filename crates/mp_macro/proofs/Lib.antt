@@ -1,0 +1,5 @@
+pub mod BodyLemmas
+pub mod GrammarLemmas
+pub mod NumberedLemmas
+pub mod TextLemmas
+mod Examples

@@ -1,0 +1,7 @@
+pub mod Signs
+pub mod Headings
+pub mod Bodies
+pub mod Definitions
+pub mod Grammar
+pub mod Texts
+pub mod Numbered
