@@ -11,7 +11,7 @@ use Rattle.mp_pool.specs.Terms.{AreTerms}
 use Rattle.mp_solver.specs.Reduction.{reduce_of}
 use Rattle.mp_solver.specs.Replay.{Event, Equation}
 use Rattle.mp_solver.specs.States.{States, Unknowns}
-use Rattle.mp_solver.specs.Ready.{Prepared, prepared}
+use Rattle.mp_solver.specs.Ready.{Prepared, IsPrepared}
 use Rattle.mp_forms.specs.declared.fault.FormFault.{FormFault}
 use Rattle.mp_solver.specs.Elimination.{without, term_of, over_negative, solved_for, replaced, replaced_term, solved_states, forms_in, has_large_coefficient, has_large_constant, term_count, eliminate_by, eliminate, pivot_of}
 use Rattle.mp_solver.specs.declared.equated.Equated.{Equated}
@@ -22,12 +22,15 @@ use Rattle.mp_vartree.specs.Variables.{Variables}
 use Rattle.mp_vartree.specs.Laws.{held}
 use Rattle.mp_symbols.specs.Tables.{Table}
 use Rattle.mp_acts.specs.Counts.{IsWithin}
-use Rattle.mp_acts.specs.State.{counts_of}
+use Rattle.mp_acts.specs.State.{State, counts_of}
 use Rattle.mp_acts.specs.Reach.{reach_of_form, reach_of_known, reach_of_variable, reach_of_slot, AreWithin}
 use Rattle.mp_acts.specs.Kept.{IsKept}
+use Rattle.mp_acts.specs.Operands.{or_refused}
+use Rattle.mp_acts.specs.Equations.{IsAnswer}
+use Rattle.mp_values.specs.Outcome.{in_state}
 use Rattle.mp_acts.proofs.EventLemmas.{events_equation}
 use Rattle.mp_acts.proofs.WithinLemmas.{within_more, all_more, meanings_more, saved_more}
-use Rattle.mp_acts.proofs.ReachLemmas.{is_over, reach-filter, reach-changed, reach-sum}
+use Rattle.mp_acts.proofs.ReachLemmas.{is_over, ok_within, reduce_within, reach-filter, reach-changed, reach-sum}
 
 module _ (n : ℕ) where
   solved_within : (pivot : Term) (p : LinearForm) → reach_of_form p ≤ n → reach_of_form (solved_for pivot p) ≤ n
@@ -133,13 +136,45 @@ module _ {count : ℕ} {variables : Variables} {slots : List (Option Value)} {sy
   }
 
 -- a difference that is prepared was brought up to date, and one that is refused was not
-pub prepared_err : (unknowns : Unknowns) (r : Result LinearForm FormFault) (fault : FormFault) (answer : Result Prepared FormFault) → answer ≡ Err fault → answer ≡ prepared unknowns r → r ≡ Err fault
-prepared_err unknowns (Ok p) fault answer e prepared_is = cc
-prepared_err unknowns (Err other) fault answer e prepared_is = cc
+pub prepared_err : (unknowns : Unknowns) (r : Result LinearForm FormFault) (fault : FormFault) (answer : Result Prepared FormFault)
+    → answer ≡ Err fault → IsPrepared unknowns r answer → r ≡ Err fault
+prepared_err unknowns (Ok p) fault (Ok ready) e is = cc
+prepared_err unknowns (Ok p) fault (Err given) e is = elim is [ ]
+prepared_err unknowns (Err other) fault (Ok ready) e is = elim is [ ]
+prepared_err unknowns (Err other) fault (Err given) e is = cc
 
-same_answer : (answer : Result Prepared FormFault) (a b : Prepared) → answer ≡ Ok a → answer ≡ Ok b → a ≡ b
-same_answer answer a b e f = cc
+pub prepared_ok : (unknowns : Unknowns) (r : Result LinearForm FormFault) (ready : Prepared) (answer : Result Prepared FormFault)
+    → answer ≡ Ok ready → IsPrepared unknowns r answer → r ≡ Ok ready.residual
+prepared_ok unknowns (Ok p) ready (Ok given) e is = cc
+prepared_ok unknowns (Ok p) ready (Err given) e is = elim is [ ]
+prepared_ok unknowns (Err other) ready (Ok given) e is = elim is [ ]
+prepared_ok unknowns (Err other) ready (Err given) e is = cc
 
-pub prepared_ok : (unknowns : Unknowns) (r : Result LinearForm FormFault) (ready : Prepared) (answer : Result Prepared FormFault) → answer ≡ Ok ready → answer ≡ prepared unknowns r → r ≡ Ok ready.residual
-prepared_ok unknowns (Ok p) ready answer e prepared_is = ap (λ x. Ok x.residual) (same_answer answer (record { residual = p; unknowns = unknowns }) ready prepared_is e)
-prepared_ok unknowns (Err other) ready answer e prepared_is = cc
+-- what comes of an equation that was prepared for these unknowns, which stayed as they were until it was taken
+module _ (before still now : Unknowns) (difference : LinearForm) (ready : Prepared) (answered : Result Prepared FormFault) (answer : Equated)
+    (answered_is : answered ≡ Ok ready) (prepared_is : IsPrepared before (reduce_of before.states difference) answered) (same : still ≡ before)
+    (exact : (answer, now.states) ≡ eliminate still.states ready.residual) where
+  pub residual_is : reduce_of before.states difference ≡ Ok ready.residual
+  residual_is = prepared_ok before (reduce_of before.states difference) ready answered answered_is prepared_is
+
+  pub outcome_is : (answer, now.states) ≡ eliminate before.states ready.residual
+  outcome_is = exact ∙ ap (λ (unknowns : Unknowns). eliminate unknowns.states ready.residual) same
+
+  pub residual_within : All (λ known. reach_of_known known ≤ length before.states) before.states → reach_of_form difference ≤ length before.states
+      → reach_of_form ready.residual ≤ length before.states
+  residual_within forms reaches =
+      ok_within (length before.states) (reduce_of before.states difference) (reduce_of before.states difference) ready.residual residual_is refl
+      (reduce_within before.states (length before.states) difference forms reaches)
+
+  pub as_many_after : (variables : Variables) (slots : List (Option Value)) (symbols : Table Meaning) → AreWithin before.states variables slots symbols
+      → reach_of_form difference ≤ length before.states → length now.states ≡ length before.states
+  as_many_after variables slots symbols is reaches =
+      (equation_keeps before.states now.states variables slots symbols ready.residual answer is (residual_within is.forms reaches) outcome_is).length_is
+
+  pub answer_is : (s : State) → s.unknowns ≡ before → IsAnswer difference s answer now.states
+  answer_is s is = record {
+    residual = ready.residual;
+    is_up_to_date =
+        ap (λ r. in_state (or_refused r) s) (ap (λ (unknowns : Unknowns). reduce_of unknowns.states difference) is ∙ residual_is);
+    outcome = outcome_is ∙ ap (λ (unknowns : Unknowns). eliminate unknowns.states ready.residual) (sym is);
+  }

@@ -1,6 +1,6 @@
 -- Equations between two values.
 -- After Hobby, A User's Manual for MetaPost, section 3.2; the lines and the order of the refusals are this project's own.
-use Rattle.std.specs.Prelude.{ℕ, ℤ, pos, Bool, true, false, [], ◌∷◌, ◌++◌, Some, Ok, Err, slice_set, codes}
+use Rattle.std.specs.Prelude.{◌≡◌, ℕ, ℤ, pos, Bool, true, false, [], ◌∷◌, ◌++◌, Some, Ok, Err, slice_set, codes}
 use Rattle.std.specs.Bool.{beq}
 use Rattle.std.specs.Str.{bytes_eq}
 use Rattle.mp_scaled.specs.Print.{printed}
@@ -43,6 +43,12 @@ taken difference (Limit, states) s = Err (error.Limit cap.Terms TERM_LIMIT, s)
 -- a difference, with what it is when it is brought up to date, is made to be 0
 unfoldable pub vanish : LinearForm → LinearForm → Rule State (Unit {0})
 vanish difference residual s = taken difference (eliminate s.unknowns.states residual) s
+
+-- the solver's answer to a difference that was brought up to date, and the states that it leaves
+pub record IsAnswer (difference : LinearForm) (s : State) (answer : Equated) (states : States) : Type 0 where
+  pub residual : LinearForm
+  pub is_up_to_date : up_to_date difference s ≡ Ok (residual, s)
+  pub outcome : (answer, states) ≡ eliminate s.unknowns.states residual
 
 -- two numbers are made equal: their difference is made to be 0
 unfoldable pub equate_numbers : Value → Value → Rule State (Unit {0})

@@ -1,15 +1,14 @@
 //! Equations between two values.
 
 ghost use Rattle.std.specs.Prelude.{◌≡◌, ◌≢◌, ◌≤◌, ◌<◌, length, Ok, Err, IfOk, IfErr};
-ghost use Rattle.mp_solver.specs.Elimination.{eliminate};
-ghost use Rattle.mp_solver.specs.Reduction.{reduce_of};
-ghost use Rattle.mp_values.specs.Outcome.{Gives, IsWhole, change, error_of};
+ghost use Rattle.mp_values.specs.Outcome.{Gives, IsWhole, change, error_of, then};
 ghost use Rattle.mp_values.specs.declared.fault.Fault.TheVariants.{NoMemory as WantOfMemory};
 ghost use Rattle.mp_vartree.specs.Kinds.{are_of_one_kind};
 ghost use Rattle.mp_acts.specs.Counts.{IsWithin, nothing};
 ghost use Rattle.mp_acts.specs.State.{unknown_count, counts};
 ghost use Rattle.mp_acts.specs.Reach.{reach, reach_of_form};
-ghost use Rattle.mp_acts.specs.Operands as operands;
+ghost use Rattle.mp_acts.specs.Operands.{up_to_date};
+ghost use Rattle.mp_acts.specs.Equations.{IsAnswer};
 ghost use Rattle.mp_acts.specs.Equations as equations;
 
 use crate::State;
@@ -17,8 +16,8 @@ use crate::event::Event;
 use crate::texts::push_scaled;
 use mp_forms::Form;
 use mp_report::{Cap, SourceError};
-use mp_scaled::{Bytes, NoMemory};
-use mp_solver::{Equated, Ready, TERM_LIMIT};
+use mp_scaled::Bytes;
+use mp_solver::{Equated, TERM_LIMIT};
 use mp_values::{Fault, Value};
 use mp_vartree::have_one_kind;
 use std::snapshot::Snapshot;
@@ -139,40 +138,19 @@ impl State {
         ensures counts { IsWithin (counts self.old) (counts self.new) }
     {
         let difference = self.difference_by(b"=", left, right)?;
-        let ready = self.ready(&difference)?;
-        self.vanish(&difference, ready)
+        self.vanish(&difference)
     }
 
-    /// A difference brought up to date, with all that it needs to be made 0.
-    fn ready(&mut self, difference: &Form) -> Result<Ready, Fault>
-        requires { reach_of_form difference.now ≤ unknown_count self.old }
-        ensures ok { IfOk result (λ ready. operands.up_to_date difference.now self.old
-            ≡ Ok (ready.residual, self.old)) }
-        ensures err { IfErr result (λ made. made ≢ WantOfMemory
-            → operands.up_to_date difference.now self.old ≡ Err (error_of made, self.old)) }
-        ensures reduced { IfOk result (λ ready. Ok ready.residual
-            ≡ reduce_of self.old.unknowns.states difference.now) }
-        ensures unknowns { IfOk result (λ ready. ready.unknowns ≡ self.old.unknowns) }
-        ensures within { IfOk result (λ ready. reach_of_form ready.residual
-            ≤ unknown_count self.old) }
-        ensures same { self.new ≡ self.old }
-    {
-        Ok(self.system.ready(difference)??)
-    }
-
-    /// Makes a difference 0.
+    /// Brings a difference up to date and makes it 0.
     #[tactic(auto, unfolding(crate::specs::Equations::vanish))]
-    fn vanish(&mut self, difference: &Form, ready: Ready) -> Result<(), Fault>
+    fn vanish(&mut self, difference: &Form) -> Result<(), Fault>
         requires over { reach_of_form difference.now ≤ unknown_count self.old }
-        requires reduced { Ok ready.residual ≡ reduce_of self.old.unknowns.states difference.now }
-        requires unknowns { ready.unknowns ≡ self.old.unknowns }
-        requires within { reach_of_form ready.residual ≤ unknown_count self.old }
         ensures exact { Gives result self.new
-            (equations.vanish difference.now ready.residual self.old) }
+            (then (up_to_date difference.now self.old) (equations.vanish difference.now)) }
         ensures whole { IsWhole result self.old self.new }
         ensures counts { IsWithin (counts self.old) (counts self.new) }
     {
-        match self.take(difference, ready)? {
+        match self.take(difference)? {
             Equated::Accepted => Ok(()),
             Equated::Redundant(residual) => self.redundant(residual),
             Equated::Inconsistent(off) => Err(Fault::Refused(SourceError::Inconsistent(off))),
@@ -187,13 +165,12 @@ impl State {
 
     /// Has the solver take an equation; one that is accepted is the newest event. There is room for it before the
     /// unknowns change.
-    fn take(&mut self, difference: &Form, ready: Ready) -> Result<Equated, NoMemory>
+    fn take(&mut self, difference: &Form) -> Result<Equated, Fault>
         requires over { reach_of_form difference.now ≤ unknown_count self.old }
-        requires reduced { Ok ready.residual ≡ reduce_of self.old.unknowns.states difference.now }
-        requires unknowns { ready.unknowns ≡ self.old.unknowns }
-        requires within { reach_of_form ready.residual ≤ unknown_count self.old }
-        ensures exact { IfOk result (λ answer. (answer, self.new.unknowns.states)
-            ≡ eliminate self.old.unknowns.states ready.residual) }
+        ensures ok { IfOk result (λ answer. IsAnswer difference.now self.old answer
+            self.new.unknowns.states) }
+        ensures err { IfErr result (λ made. made ≢ WantOfMemory
+            → up_to_date difference.now self.old ≡ Err (error_of made, self.old)) }
         ensures accepted { result ≡ Ok Equated.Accepted
             → self.new ≡ equations.with_equation self.old difference.now self.new.unknowns.states }
         ensures refused { result ≢ Ok Equated.Accepted → self.new ≡ self.old }
@@ -201,7 +178,10 @@ impl State {
     {
         // Asked for its contract alone: a form's terms are in order, as an event's have to be.
         let _terms = difference.terms();
-        self.events.reserve(1)?;
+        if self.events.reserve(1).is_err() {
+            return Err(Fault::NoMemory);
+        }
+        let ready = self.system.ready(difference)??;
         let answer = self.system.equate(ready);
         if let Equated::Accepted = answer {
             self.events

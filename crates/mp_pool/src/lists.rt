@@ -25,6 +25,22 @@ pub fn push(cells: &mut Cells, chain: usize, term: Term)
     cells.step(0, chain);
 }
 
+/// Adds terms at the end of a list.
+pub fn push_all(cells: &mut Cells, chain: usize, terms: &[Term])
+    requires is { chain < length cells.old }
+    requires other { 0 ≢ chain }
+    requires terms { AreTerms terms.now }
+    requires spare { length terms.now ≤ length (chain_of cells.old 0) }
+    ensures rest { OnlyTwo cells.old cells.new 0 chain }
+    ensures list { chain_of cells.new chain ≡ chain_of cells.old chain ++ terms.now }
+    ensures cells { length (chain_of cells.new 0) + length (chain_of cells.new chain)
+        ≡ length (chain_of cells.old 0) + length (chain_of cells.old chain) }
+{
+    'pushing: for term in terms {
+        push(cells, chain, *term);
+    }
+}
+
 /// Gives all cells of a list back.
 pub fn clear(cells: &mut Cells, chain: usize)
     requires is { chain < length cells.old }

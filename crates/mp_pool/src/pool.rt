@@ -7,7 +7,7 @@ ghost use Rattle.mp_pool.specs.Pool.{list_in, terms_in, with_list, without_list,
 
 use crate::cells::Cells;
 use crate::fits::fits;
-use crate::lists::{clear, push, remove};
+use crate::lists::{clear, push, push_all, remove};
 use crate::room::{add_cell, add_slot};
 use crate::splice::merge_into;
 use crate::{List, Term, TermsOf};
@@ -159,6 +159,18 @@ impl Pool {
     {
         let _taken = &self.taken;
         push(&mut self.cells, list.chain(), term);
+    }
+
+    /// Adds terms at the end of a list.
+    pub fn push_all(&mut self, list: List, terms: &[Term])
+        requires list { IsSome (list_in self.old list.slot) }
+        requires spare { length terms.now ≤ spare self.old }
+        requires terms { AreTerms terms.now }
+        requires all { AreTerms (terms_in self.old list.slot ++ terms.now) }
+        ensures { self.new ≡ with_list self.old list.slot (terms_in self.old list.slot ++ terms.now) }
+    {
+        let _taken = &self.taken;
+        push_all(&mut self.cells, list.chain(), terms);
     }
 
     /// Takes the term of an unknown out of a list, and answers its coefficient, where it has one.

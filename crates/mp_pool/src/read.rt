@@ -37,8 +37,15 @@ impl<'a> TermsOf<'a> {
         TermsOf { cells, at, left }
     }
 
+    /// How many are left.
+    pub fn len(&self) -> u32
+        ensures { result ≡ length self.now }
+    {
+        self.left
+    }
+
     /// The next term, which stays.
-    pub(crate) fn peek(&self) -> Option<Term>
+    pub fn peek(&self) -> Option<Term>
         ensures none { IsNone result → self.now ≡ [] }
         ensures some { IfSome result (λ t. self.now ≡ t ∷ drop 1 self.now) }
     {
@@ -49,7 +56,7 @@ impl<'a> TermsOf<'a> {
     }
 
     /// Passes the next term.
-    pub(crate) fn step(&mut self)
+    pub fn step(&mut self)
         requires { 0 < length self.old }
         ensures { self.new ≡ drop 1 self.old }
     {

@@ -1,5 +1,5 @@
 use mp_forms::Form;
-use mp_solver::{Equated, Fresh, State, System};
+use mp_solver::{Equated, FormView, Fresh, State, System};
 use std::alloc::Global;
 use std::test::Fail;
 
@@ -131,6 +131,18 @@ fn residuals(rt: HostRuntime) -> Result<(), Fail> {
     Ok(())
 }
 
+/// Whether a form has these terms and no others.
+fn are_terms(form: &FormView<'_>, wanted: &[(u32, i64)]) -> bool {
+    let mut found = form.terms();
+    for want in wanted {
+        match found.next() {
+            Some(term) if term.serial == want.0 && term.coefficient == want.1 => {}
+            _ => return false,
+        }
+    }
+    found.next().is_none()
+}
+
 /// What is known of an unknown: its form, or that it is independent.
 fn state_is(system: &System, serial: u32, want: Option<Plain>) -> bool {
     if !system.has_unknown(serial) {
@@ -139,10 +151,7 @@ fn state_is(system: &System, serial: u32, want: Option<Plain>) -> bool {
     match (system.state(serial), want) {
         (State::Independent, None) => true,
         (State::Dependent(form), Some((constant, terms))) => {
-            form.constant() == constant
-                && form.terms().count() == terms.len()
-                && form.terms().zip(terms).all(|(term, want)| term.serial == want.0
-                    && term.coefficient == want.1)
+            form.constant() == constant && are_terms(&form, terms)
         }
         _ => false,
     }
@@ -185,6 +194,38 @@ fn name_of(system: &System, serial: u32) -> Option<&[u8]> {
     } else {
         None
     }
+}
+
+#[test]
+fn whole_or_not_at_all(rt: HostRuntime) -> Result<(), Fail> {
+    let alloc = rt.alloc();
+    let mut system = system_of(alloc, 3)?;
+    // x+y=30000; z-x=30000
+    let sum: Plain = (-1966080000, &[(1, ONE), (2, ONE)]);
+    let difference: Plain = (-1966080000, &[(1, -ONE), (3, ONE)]);
+    for form in [sum, difference] {
+        let form = form_of(alloc, form)?;
+        assert_eq!(rt; equated(&mut system, &form)?, Some(Equated::Accepted));
+    }
+    // x=10000
+    let large = form_of(alloc, (-655360000, &[(1, ONE)]))?;
+    for answer in [None, Some(Equated::Overflow)] {
+        if answer.is_some() {
+            assert_eq!(rt; equated(&mut system, &large)?, answer);
+        }
+        assert!(rt; state_is(&system, 1, None));
+        assert!(rt; state_is(&system, 2, Some((1966080000, &[(1, -ONE)]))));
+        assert!(rt; state_is(&system, 3, Some((1966080000, &[(1, ONE)]))));
+        assert_eq!(rt; system.changes(), 5);
+        assert_eq!(rt; system.used(), 2);
+    }
+    // x=2000
+    let small = form_of(alloc, (-131072000, &[(1, ONE)]))?;
+    assert_eq!(rt; equated(&mut system, &small)?, Some(Equated::Accepted));
+    assert_eq!(rt; system.used(), 0);
+    assert!(rt; state_is(&system, 2, Some((1835008000, &[]))));
+    assert!(rt; state_is(&system, 3, Some((2097152000, &[]))));
+    Ok(())
 }
 
 fn unname(system: &mut System, serial: u32) {

@@ -1,23 +1,22 @@
 -- The answer to an equation, once the pivot's new form has replaced it everywhere.
-use Rattle.std.proofs.Common.{◌≡◌, ℕ, ◌+◌, ◌-◌, ◌<◌, ◌≤◌, ◌^◌, unsigned_abs, Bool, true, false, ◌||◌, List, [], ◌∷◌, ◌++◌, Some, map, length, get_or, set, take, drop, refl, sym, ap, ◌∙◌, arith}
-use Rattle.std.specs.List.{list_any, fold}
+use Rattle.std.proofs.Common.{◌≡◌, ℕ, ◌+◌, ◌-◌, ◌<◌, ◌≤◌, ◌^◌, unsigned_abs, Bool, true, false, ◌||◌, Some, map, length, get_or, take, drop, refl, sym, ap, ◌∙◌, subst, arith}
+use Rattle.std.specs.List.{list_any}
 use Rattle.std.specs.Option.{option_map}
 use Rattle.std.proofs.lemmas.Bool.{lt-ltb, le-ltb, lt-leb}
-use Rattle.std.proofs.lemmas.List.{take_all, length-map, append-nil, drop_all}
-use Rattle.std.proofs.lemmas.List.Sums.{fold-append}
+use Rattle.std.proofs.lemmas.List.{take_all, length-map, drop_all}
 use Rattle.std.proofs.lemmas.List.Folds.{list_any_none}
-use Rattle.std.proofs.lemmas.List.Elements.{All-nil, All-cons, All-append}
 use Rattle.mp_pool.specs.declared.Term.{Term}
 use Rattle.mp_pool.specs.Terms.{is_too_large}
 use Rattle.mp_forms.specs.Forms.{LinearForm}
-use Rattle.mp_solver.specs.declared.change.Change.{Change}
+use Rattle.mp_solver.specs.declared.rewriting.Solved.{Solved}
 use Rattle.mp_solver.specs.declared.equated.Equated.TheVariants.{Accepted, CoefficientTooLarge, Overflow, Limit}
 use Rattle.mp_solver.specs.States.{States}
 use Rattle.mp_solver.specs.Elimination.{pivot_of, solved_for, replaced, solved_states, forms_in, has_large_coefficient, has_large_constant, term_count, answer_by_limits, eliminate, eliminate_by}
 use Rattle.mp_solver.specs.Ready.{IsResidual}
-use Rattle.mp_solver.specs.Storage.Changes.{with_change, IsReady}
-use Rattle.mp_solver.proofs.EliminationLemmas.{list_any-set, term_count-set, slot_within, slot_empty, pivot_within, new_small as small_terms}
-use Rattle.mp_solver.specs.Storage.Tally.{IsTally}
+use Rattle.mp_solver.specs.Storage.Rows.{AreHolders}
+use Rattle.mp_solver.specs.Storage.Taking.{IsSolving, IsReady}
+use Rattle.mp_solver.proofs.EliminationLemmas.{list_any-set, term_count-set, slot_within, slot_empty, new_small as small_terms}
+use Rattle.mp_solver.specs.Storage.Tally.{IsTally, IsEnough}
 
 module _ (states : States) (residual : LinearForm) (is : IsResidual states residual) (pivot : Term) (found : pivot_of residual.terms ≡ Some pivot) where
   abbrev new : LinearForm
@@ -45,7 +44,7 @@ module _ (states : States) (residual : LinearForm) (is : IsResidual states resid
       let some : list_any has_large_coefficient (forms_in after) ≡ true = any_after has_large_coefficient ∙ rw (new_small, large) refl in
       sym (by_limits ∙ rw some refl)
 
-  module _ (i : ℕ) (all : length states ≤ i) (changes : List Change) (overflows : Bool) (unchanged added : ℕ) (tally : IsTally states pivot.serial new i changes overflows unchanged added) where
+  module _ (i : ℕ) (all : length states ≤ i) (overflows : Bool) (unchanged added : ℕ) (tally : IsTally states pivot.serial new i overflows unchanged added) where
     whole : take i mapped ≡ mapped
     whole = let same = length-map states (option_map (replaced pivot.serial new)) in take_all i mapped (omega (arith, all, same))
 
@@ -73,20 +72,27 @@ module _ (states : States) (residual : LinearForm) (is : IsResidual states resid
     answer-limit fits many = sym (by_limits ∙ rw (coefficients, constants, fits, lt-ltb 4000000 (term_count after) ((count fits).1 many)) refl)
 
     -- all forms are within the limits
-    pub IsReady-accepted : (form : LinearForm) → overflows ≡ false → form ≡ new → unchanged + added ≤ 4000000 →
-        IsReady states residual Accepted (changes ++ record { index = pivot.serial - 1; form = form } ∷ []) (unchanged + added)
-    IsReady-accepted form fits same few =
-        let last : Change = record { index = pivot.serial - 1; form = form } in
+    pub IsReady-accepted : (solved : Solved) (cells : ℕ) → overflows ≡ false → IsEnough states pivot.serial new (cells + term_count states)
+        → solved.serial ≡ pivot.serial → solved.form ≡ new → AreHolders states pivot.serial 0 solved.rows.items
+        → unchanged + added ≤ 4000000 →
+        IsReady states residual Accepted (Some solved) cells 1
+    IsReady-accepted solved cells fits enough serial_is form_is rows few =
         let counted = (count fits).0 few in
         let less : term_count after ≤ 4000000 = omega (arith, counted, few) in
-        let replaced_all : fold with_change states changes ≡ mapped =
-        tally.applied fits (omega (arith, few)) ∙ ap (λ ss. take i mapped ++ ss) (drop_all i states all) ∙ append-nil (take i mapped) ∙ whole in
-        let folded : fold with_change states (changes ++ last ∷ []) ≡ after =
-        fold-append with_change states changes (last ∷ []) ∙ ap (λ ss. set ss (pivot.serial - 1) (Some form)) replaced_all ∙ ap (λ f. set mapped (pivot.serial - 1) (Some f)) same in
-        let at : last.index < length states = let within = pivot_within states residual is pivot found in omega (arith, within.0, within.1) in
         record {
           is_residual = is;
-          outcome = ap (λ ss. (Accepted, ss)) folded ∙ sym (by_limits ∙ rw (coefficients, constants, fits, le-ltb 4000000 (term_count after) less) refl);
-          within = All-append (λ change. change.index < length states) changes (last ∷ []) tally.within (All-cons (λ change. change.index < length states) last [] at (All-nil (λ change. change.index < length states)));
-          terms_count = λ _. let same_count = ap term_count folded in omega (arith, counted, few, same_count);
+          refused = λ none. absurd cc;
+          solving = λ s some.
+              let same : solved ≡ s = cc in
+              subst (IsSolving states residual Accepted cells 1) same (record {
+                accepted = refl;
+                pivot = pivot;
+                found = found;
+                serial = serial_is;
+                form = form_is;
+                outcome = sym (by_limits ∙ rw (coefficients, constants, fits, le-ltb 4000000 (term_count after) less) refl);
+                enough_cells = enough;
+                enough_lists = omega arith;
+                rows = rw serial_is rows;
+              });
         }

@@ -1,6 +1,6 @@
 -- What an accepted equation makes of a system: it is solved again.
 use Rattle.std.proofs.Common.{◌≡◌, ◌≢◌, ℕ, ◌+◌, ◌-◌, ◌<◌, ◌≤◌, ◌^◌, unsigned_abs, Bool, true, false, ◌||◌, cond, eqb, List, [], ◌∷◌, Option, Some, None, zero, suc, map, length, get_or, set, refl, ap, ◌∙◌, arith, length-set}
-use Rattle.std.specs.List.{All, list_any, fold}
+use Rattle.std.specs.List.{All, list_any}
 use Rattle.std.specs.Option.{option_map}
 use Rattle.std.proofs.lemmas.Bool.{leb-false, eq-eqb}
 use Rattle.std.proofs.lemmas.List.{length-map, get_or-set_other}
@@ -13,16 +13,9 @@ use Rattle.mp_forms.specs.Forms.{LinearForm}
 use Rattle.mp_solver.specs.States.{States, form_of, IsSerial}
 use Rattle.mp_solver.specs.Elimination.{pivot_of, without, term_of, over_negative, solved_for, replaced, replaced_term, solved_states, forms_in, has_large_coefficient, has_large_constant, term_count}
 use Rattle.mp_solver.specs.Ready.{IsResidual}
-use Rattle.mp_solver.specs.Storage.Changes.{with_change}
-use Rattle.mp_solver.specs.declared.change.Change.{Change}
 use Rattle.mp_solver.specs.Solved.{IsSolvedForm, IsSolved}
 use Rattle.mp_solver.proofs.ReductionLemmas.{AreTerms-filter}
 use Rattle.mp_solver.proofs.TermLists.{Each, Each-sum_terms, Each-changed_terms, Each-without, holds-pivot_of, greatest-pivot_of, AreTerms-over_negative, small-over_negative}
-
--- new forms leave the number of states as it is
-pub length-fold-with_change : (states : States) (changes : List Change) → length (fold with_change states changes) ≡ length states
-length-fold-with_change states [] = refl
-length-fold-with_change states (c ∷ cs) = length-fold-with_change (with_change states c) cs ∙ length-set states c.index (Some c.form)
 
 or_swap : (a b c : Bool) → (a || (b || c)) ≡ (b || (a || c))
 or_swap true true c = refl
@@ -68,7 +61,7 @@ All-set-forms_in P (None ∷ ss) (suc k) new p some = All-set-forms_in P ss k ne
 All-set-forms_in P (Some form ∷ ss) (suc k) new p some =
     All-cons P form (forms_in (set ss k (Some new))) (All-head P form (forms_in ss) some) (All-set-forms_in P ss k new p (All-tail P form (forms_in ss) some))
 
-forms_in-map : (f : LinearForm → LinearForm) (states : States) → forms_in (map (option_map f) states) ≡ map f (forms_in states)
+pub forms_in-map : (f : LinearForm → LinearForm) (states : States) → forms_in (map (option_map f) states) ≡ map f (forms_in states)
 forms_in-map f [] = refl
 forms_in-map f (None ∷ ss) = forms_in-map f ss
 forms_in-map f (Some form ∷ ss) = ap (λ forms. f form ∷ forms) (forms_in-map f ss)
@@ -93,7 +86,7 @@ absent_cond serial t rest true e none = absurd cc
 absent_cond serial t rest false e none = (λ same. let other = eq-eqb t.serial serial same in absurd cc, none)
 
 -- an unknown without a term does not occur
-absent : (serial : ℕ) (ts : List Term) → term_of serial ts ≡ None → Each (λ s. s ≢ serial) ts
+pub absent : (serial : ℕ) (ts : List Term) → term_of serial ts ≡ None → Each (λ s. s ≢ serial) ts
 absent serial [] none = All-nil (λ t. t.serial ≢ serial)
 absent serial (t ∷ ts) none =
     let both = absent_cond serial t (term_of serial ts) (eqb t.serial serial) refl none in
@@ -142,7 +135,7 @@ module _ (states : States) (residual : LinearForm) (is : IsResidual states resid
   pub new_small : All (λ t. unsigned_abs t.coefficient < 2 ^ 44) new.terms
   new_small = small-over_negative pivot.coefficient (without pivot.serial residual.terms) pivot_coefficient.0 others_below
 
-  new_terms : StayInOrder → AreTerms new.terms
+  pub new_terms : StayInOrder → AreTerms new.terms
   new_terms order =
       AreTerms-over_negative order pivot.coefficient (without pivot.serial residual.terms) pivot_coefficient.0
       others_below

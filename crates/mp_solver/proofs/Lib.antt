@@ -11,7 +11,11 @@ pub mod Examples
 pub mod JudgedLemmas
 pub mod ReducedLemmas
 pub mod RowLemmas
-pub mod AppliedLemmas
+pub mod HeldLemmas
+pub mod ReplacementLemmas
+pub mod OneFormLemmas
+pub mod RewriteLemmas
+pub mod TakingLemmas
 pub mod VisitLemmas
 pub mod LimitLemmas
 pub mod ReplayLemmas

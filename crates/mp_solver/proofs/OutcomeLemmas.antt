@@ -1,16 +1,15 @@
 -- What an equation leaves: the system as it was, or one that is solved again.
 use Rattle.std.proofs.Common.{◌≡◌, ◌≢◌, ◌⊎◌, ℕ, ◌+◌, ◌≤◌, ℤ, unsigned_abs, Bool, true, false, cond, leb, ltb, List, Option, Some, None, length, refl, sym, ap, ◌∙◌, subst, inl, inr, arith}
-use Rattle.std.specs.List.{list_any, fold}
+use Rattle.std.specs.List.{list_any}
 use Rattle.std.proofs.lemmas.Bool.{ltb-false}
 use Rattle.mp_pool.specs.declared.Term.{Term}
 use Rattle.mp_pool.specs.Terms.{StayInOrder}
 use Rattle.mp_forms.specs.Forms.{LinearForm}
-use Rattle.mp_solver.specs.declared.change.Change.{Change}
 use Rattle.mp_solver.specs.declared.equated.Equated.{Equated}
 use Rattle.mp_solver.specs.declared.equated.Equated.TheVariants.{Accepted, Redundant, Inconsistent, CoefficientTooLarge, Overflow, Limit}
 use Rattle.mp_solver.specs.States.{States}
 use Rattle.mp_solver.specs.Elimination.{pivot_of, solved_for, solved_states, forms_in, has_large_coefficient, has_large_constant, term_count, eliminate, eliminate_by}
-use Rattle.mp_solver.specs.Storage.Changes.{with_change, IsReady}
+use Rattle.mp_solver.specs.Ready.{IsResidual}
 use Rattle.mp_solver.specs.Storage.Counts.{IsSystem}
 use Rattle.mp_solver.proofs.EliminationLemmas.{IsSolved-after, length_after, length-forms_in_after}
 
@@ -61,38 +60,28 @@ eliminate-refused states residual answer new exact refused =
     let P : Equated × States → Type 0 = λ e. Outcome states residual e in
     elim (subst P (sym exact) (outcome states residual)) [ inl left ↦ left.1 | inr taken ↦ absurd (refused taken.0) ]
 
-module _ (before states : States) (same : before ≡ states) (residual : LinearForm) (answer : Equated) (changes : List Change) (terms : ℕ) (ready : IsReady before residual answer changes terms) (new : States) (is : new ≡ fold with_change states changes) where
-  here : IsReady states residual answer changes terms
-  here = subst (λ s. IsReady s residual answer changes terms) same ready
+-- what an accepted equation leaves
+module _ (states : States) (residual : LinearForm) (pivot : Term) (accepted : (Accepted, solved_states states pivot (solved_for pivot residual)) ≡ eliminate states residual) where
+  abbrev after : States
+  after = solved_states states pivot (solved_for pivot residual)
 
-  result : (answer, new) ≡ eliminate states residual
-  result = ap (λ s. (answer, s)) is ∙ here.outcome
+  pub taken : IsTaken states residual after
+  taken = elim (subst (Outcome states residual) (sym accepted) (outcome states residual)) [ inl left ↦ absurd (left.0 refl) | inr both ↦ both.1 ]
 
-  outcome_here : Outcome states residual (answer, new)
-  outcome_here = subst (Outcome states residual) (sym result) (outcome states residual)
-
-  -- an equation that is not accepted changes nothing
-  pub equate-refused : answer ≢ Accepted → new ≡ states
-  equate-refused refused = elim outcome_here [ inl left ↦ left.1 | inr taken ↦ absurd (refused taken.0) ]
-
-  -- an accepted one leaves a solved system
-  pub equate-accepted : (order : StayInOrder) {names : List (Option (List ℕ))} (dependent old_terms : ℕ) → answer ≡ Accepted → IsSystem states names dependent old_terms → IsSystem new names (dependent + 1) terms
-  equate-accepted order {names} dependent old_terms accepted whole =
-      elim outcome_here [
-        | inl left ↦ absurd (left.0 accepted)
-        | inr both ↦
-            let taken = both.1 in
-            let longer = length_after states residual here.is_residual taken.pivot taken.found in
-            let more = length-forms_in_after states residual here.is_residual taken.pivot taken.found in
-            let same_length : length new ≡ length states = ap length taken.is ∙ longer in
-            record {
-              names_length = whole.names_length ∙ sym same_length;
-              states_length = omega (arith, same_length, whole.states_length);
-              dependent_count = ap (λ n. n + 1) whole.dependent_count ∙ sym (ap (λ s. length (forms_in s)) taken.is ∙ more);
-              terms_count = here.terms_count accepted ∙ ap term_count (sym is);
-              solved =
-                  rw (taken.is)
-                  (IsSolved-after states residual here.is_residual taken.pivot taken.found order whole.solved
-                  (rw (sym taken.is) taken.coefficients) (rw (sym taken.is) taken.constants) (rw (sym taken.is) taken.few));
-            }
-      ]
+  -- a solved system
+  pub IsSystem-taken : (order : StayInOrder) → IsResidual states residual → {names : List (Option (List ℕ))} (dependent old_terms : ℕ) → IsSystem states names dependent old_terms → IsSystem after names (dependent + 1) (term_count after)
+  IsSystem-taken order is {names} dependent old_terms whole =
+      let now = taken in
+      let longer = length_after states residual is now.pivot now.found in
+      let more = length-forms_in_after states residual is now.pivot now.found in
+      let same_length : length after ≡ length states = ap length now.is ∙ longer in
+      record {
+        names_length = whole.names_length ∙ sym same_length;
+        states_length = omega (arith, same_length, whole.states_length);
+        dependent_count = ap (λ n. n + 1) whole.dependent_count ∙ sym (ap (λ s. length (forms_in s)) now.is ∙ more);
+        terms_count = refl;
+        solved =
+            rw (now.is)
+            (IsSolved-after states residual is now.pivot now.found order whole.solved
+            (rw (sym now.is) now.coefficients) (rw (sym now.is) now.constants) (rw (sym now.is) now.few));
+      }

@@ -1,6 +1,6 @@
 -- The lists of rows: which rows stay listed, and the forms that they name.
 use Rattle.std.proofs.Common.{◌≡◌, ◌≢◌, ◌⊎◌, ℕ, ◌+◌, ◌-◌, ◌<◌, ◌≤◌, Bool, true, false, ◌&&◌, List, [], ◌∷◌, ◌++◌, Option, Some, None, zero, suc, length, get_or, set, refl, sym, ap, ◌∙◌, subst, inl, inr, arith, length-set, get_or-set_same, get_or-set_other}
-use Rattle.std.specs.List.{All, AllPairs, Contains}
+use Rattle.std.specs.List.{All, AllPairs, Contains, sum_by}
 use Rattle.std.proofs.lemmas.Bool.{cases_lt}
 use Rattle.std.proofs.lemmas.List.{get_or_past, length-append}
 use Rattle.std.proofs.lemmas.List.Kept.{AllPairs-from_increasing}
@@ -10,7 +10,8 @@ use Rattle.mp_solver.specs.declared.limits.TheConstants.{UNKNOWN_LIMIT}
 use Rattle.mp_solver.specs.States.{States, with_fresh}
 use Rattle.mp_solver.specs.Storage.Rows.{Holders, holders_of, terms_in, IsListedFor, AreListed, IsInOrder, StaysListed, AreHolders, IsIndexed}
 use Rattle.mp_solver.specs.Solved.{IsSolvedForm}
-use Rattle.mp_solver.proofs.StateLemmas.{IsSystem-with_fresh}
+use Rattle.mp_solver.specs.Elimination.{term_count}
+use Rattle.mp_solver.proofs.StateLemmas.{IsSystem-with_fresh, forms_in-with_fresh}
 use Rattle.mp_solver.proofs.StepLemmas.{holds-at}
 
 pub StaysListed-trans : (first second third : Holders) → StaysListed first second → StaysListed second third → StaysListed first third
@@ -114,6 +115,13 @@ IsIndexed-with_fresh states names name dependent terms holders is_listed room in
       lists = omega (arith, longer, more, indexed.lists);
       listed = λ is. AreListed-with_fresh states holders (indexed.listed is);
     }
+
+-- the same of the states after a call
+pub IsIndexed-pushed : (states after : States) (names : List (Option (List ℕ))) (name : Option (List ℕ)) (dependent : ℕ) (holders : Holders) (is_listed : Bool) → after ≡ with_fresh states → length states < UNKNOWN_LIMIT →
+    IsIndexed states names dependent (term_count states) holders is_listed → IsIndexed after (names ++ name ∷ []) dependent (term_count after) (holders ++ [] ∷ []) is_listed
+IsIndexed-pushed states after names name dependent holders is_listed is room indexed =
+    let same : term_count (with_fresh states) ≡ term_count states = ap (sum_by (λ p. length p.terms)) (forms_in-with_fresh states) in
+    rw is (rw same (IsIndexed-with_fresh states names name dependent (term_count states) holders is_listed room indexed))
 
 pub both_true : (a b : Bool) → (a && b) ≡ true → (a ≡ true) × (b ≡ true)
 both_true true b e = (refl, e)

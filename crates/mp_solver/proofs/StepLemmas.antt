@@ -1,9 +1,9 @@
 -- One step of the loop over the states, from what is added of the form there; and what reduced forms are added of.
-use Rattle.std.proofs.Common.{◌≡◌, ℕ, ◌+◌, ◌-◌, ◌<◌, ◌≤◌, ◌^◌, min, unsigned_abs, Bool, true, false, ◌||◌, cond, ltb, leb, inl, inr, ℤ, ◌+ℤ◌, List, [], ◌∷◌, ◌++◌, Option, Some, None, Result, Ok, Err, zero, suc, map, length, get_or, take, drop, refl, sym, ap, ◌∙◌, subst}
+use Rattle.std.proofs.Common.{◌≡◌, ℕ, ◌+◌, ◌-◌, ◌<◌, ◌≤◌, ◌^◌, min, unsigned_abs, Bool, true, false, ◌||◌, cond, ltb, ℤ, ◌+ℤ◌, List, [], ◌∷◌, Option, Some, None, Result, Ok, Err, zero, suc, map, length, get_or, take, drop, refl, sym, ap, ◌∙◌, subst, arith}
 use Rattle.std.specs.List.{All, list_any, filter, fold}
 use Rattle.std.specs.Option.{option_map, is_none}
 use Rattle.std.specs.Result.{IfOk}
-use Rattle.std.proofs.lemmas.Bool.{cases_lt, lt-leb, le-leb}
+use Rattle.std.proofs.lemmas.Bool.{lt-leb}
 use Rattle.std.proofs.lemmas.List.{take-append-drop}
 use Rattle.std.proofs.lemmas.List.Folds.{list_any-append, list_any_none}
 use Rattle.std.proofs.lemmas.List.Elements.{filter_map-append, All-nil, All-cons, All-head, All-tail, All-filter}
@@ -14,19 +14,18 @@ use Rattle.mp_pool.specs.Ratios.{times_fraction}
 use Rattle.mp_pool.specs.Terms.{sum_terms, is_too_large, AreTerms}
 use Rattle.mp_forms.specs.Forms.{LinearForm, sum_of}
 use Rattle.mp_solver.specs.declared.solution.Solution.{Solution}
-use Rattle.mp_solver.specs.declared.solution.Replacement.{Replacement}
-use Rattle.mp_solver.specs.declared.solution.Replacement.TheVariants.{Absent, Changed, Overflows, TooLarge}
-use Rattle.mp_solver.specs.declared.change.Change.{Change}
+use Rattle.mp_solver.specs.declared.view.Replacement.{Replacement}
+use Rattle.mp_solver.specs.declared.view.Replacement.TheVariants.{Absent, Changed, Overflows, TooLarge}
 use Rattle.mp_solver.specs.States.{States, form_of, IsSerial, IsOver}
 use Rattle.mp_solver.specs.Reduction.{independent_part, with_form, with_term_of, reduce_of}
-use Rattle.mp_solver.specs.Elimination.{replaced, forms_in, has_large_coefficient, has_large_constant}
-use Rattle.mp_solver.specs.Storage.Solution.{IsSolution, replaced_sum, replacement_of}
+use Rattle.mp_solver.specs.Elimination.{term_of, replaced, forms_in, has_large_coefficient, has_large_constant}
+use Rattle.mp_solver.specs.Storage.Solution.{IsSolution, replacement_of}
 use Rattle.mp_solver.specs.Solved.{IsReduced, IsSolvedForm, IsSolved}
 use Rattle.mp_solver.specs.Ready.{IsResidual}
 use Rattle.mp_solver.proofs.ReducedLemmas.{reduce_of_reduced}
 use Rattle.mp_solver.proofs.TermLists.{Each, Each-sum_terms}
 use Rattle.mp_solver.specs.Storage.Tally.{IsTally}
-use Rattle.mp_solver.proofs.SubstitutionLemmas.{Says, says, IsTally-unchanged, IsTally-changed, IsTally-beyond, IsTally-overflows, any_next}
+use Rattle.mp_solver.proofs.SubstitutionLemmas.{Says, says, IsTally-unchanged, IsTally-changed, IsTally-overflows, any_next, unchanged_terms}
 
 -- what holds of all forms holds of the form of one unknown
 pub holds-at : (P : LinearForm → Type 0) (states : States) (i : ℕ) (p : LinearForm) → All P (forms_in states) → get_or states i None ≡ Some p → P p
@@ -51,13 +50,13 @@ or_true_right true b e = refl
 or_true_right false b e = e
 
 module _ (states : States) (solved : IsSolved states) (serial : ℕ) (new : LinearForm) (solution : Solution) (is : IsSolution solution new)
-    (i : ℕ) (changes : List Change) (overflows : Bool) (unchanged added : ℕ) (so_far : IsTally states serial new i changes overflows unchanged added) (at : i < length states)
-    (form : LinearForm) (some : get_or states i None ≡ Some form) (answer : Replacement) (answer_is : answer ≡ replacement_of (replaced_sum serial solution.form form)) where
+    (i : ℕ) (overflows : Bool) (unchanged added : ℕ) (so_far : IsTally states serial new i overflows unchanged added) (at : i < length states)
+    (form : LinearForm) (some : get_or states i None ≡ Some form) (answer : Replacement) (answer_is : answer ≡ replacement_of form (replaced serial solution.form form) (term_of serial form.terms)) where
   held_is : solution.form ≡ record { constant = solution.form.constant; terms = new.terms }
   held_is = ap (λ ts. record { constant = solution.form.constant; terms = ts }) is.terms
 
   said : Says serial new solution.form.constant solution.overflows is.constant form (replaced serial new form) answer
-  said = says serial new solution.form.constant solution.overflows is.constant form answer (answer_is ∙ ap (λ f. replacement_of (replaced_sum serial f form)) held_is)
+  said = says serial new solution.form.constant solution.overflows is.constant form answer (answer_is ∙ ap (λ f. replacement_of form (replaced serial f form) (term_of serial form.terms)) held_is)
 
   said_of : (a : Replacement) → answer ≡ a → Says serial new solution.form.constant solution.overflows is.constant form (replaced serial new form) a
   said_of a same = subst (Says serial new solution.form.constant solution.overflows is.constant form (replaced serial new form)) same said
@@ -65,38 +64,31 @@ module _ (states : States) (solved : IsSolved states) (serial : ℕ) (new : Line
   fits_new : overflows ≡ false → solution.overflows ≡ false
   fits_new fits = is.overflows ∙ or_left (has_large_constant new) _ (sym so_far.overflow ∙ fits)
 
-  pub step-unchanged : answer ≡ Absent → IsTally states serial new (i + 1) changes overflows unchanged added
+  pub step-unchanged : answer ≡ Absent → IsTally states serial new (i + 1) overflows unchanged added
   step-unchanged same =
       let small = small_form states form (holds-at (IsSolvedForm states) states i form solved.forms some) in
-      IsTally-unchanged states serial new i changes overflows unchanged added so_far at form some (said_of Absent same) small.0 small.1
+      IsTally-unchanged states serial new i overflows unchanged added so_far at form some (said_of Absent same) small.0 small.1
 
-  module _ (f : LinearForm) (less more : ℕ) (same : answer ≡ Changed f) (fewer : less ≡ unchanged - length form.terms) (count : more ≡ min (added + length f.terms) 4000001) where
-    step-changed : more ≤ 4000000 → IsTally states serial new (i + 1) (changes ++ record { index = i; form = f } ∷ []) overflows less more
-    step-changed held =
-        let now = said_of (Changed f) same in
-        IsTally-changed states serial new i changes overflows unchanged added so_far at form some f less more now.0 (λ fits. now.1 (fits_new fits)) fewer count held
+  -- the terms that the form had are among the unchanged ones
+  pub step-enough : (m n : ℕ) → answer ≡ Changed m n → m ≤ unchanged
+  step-enough m n same =
+      let now = said_of (Changed m n) same in
+      omega (arith, now.0, unchanged_terms states serial new i overflows unchanged added so_far at form some)
 
-    step-beyond : 4000000 < more → IsTally states serial new (i + 1) changes overflows less more
-    step-beyond beyond =
-        let now = said_of (Changed f) same in
-        IsTally-beyond states serial new i changes overflows unchanged added so_far at form some f less more now.0 (λ fits. now.1 (fits_new fits)) fewer count beyond
+  pub step-changed : (m n less more : ℕ) → answer ≡ Changed m n → less ≡ unchanged - m → more ≡ min (added + n) 4000001 → IsTally states serial new (i + 1) overflows less more
+  step-changed m n less more same fewer count =
+      let now = said_of (Changed m n) same in
+      IsTally-changed states serial new i overflows unchanged added so_far at form some m n less more now.0 now.1 now.2 (λ fits. now.3 (fits_new fits)) fewer count
 
-    pub step-counted : (next : List Change) → next ≡ cond (leb more 4000000) (changes ++ record { index = i; form = f } ∷ []) changes → IsTally states serial new (i + 1) next overflows less more
-    step-counted next is =
-        elim (cases_lt 4000000 more) [
-          | inl beyond ↦ rw (is, lt-leb more 4000000 beyond) (step-beyond beyond)
-          | inr held ↦ rw (is, le-leb more 4000000 held) (step-changed held)
-        ]
-
-  pub step-overflows : answer ≡ Overflows → IsTally states serial new (i + 1) changes true unchanged added
+  pub step-overflows : answer ≡ Overflows → IsTally states serial new (i + 1) true unchanged added
   step-overflows same =
       let now = said_of Overflows same in
-      IsTally-overflows states serial new i changes overflows unchanged added so_far at form some now.0 (λ fits. now.1 (fits_new fits))
+      IsTally-overflows states serial new i overflows unchanged added so_far at form some now.0 (λ fits. now.1 (fits_new fits))
 
   pub step-too_large : answer ≡ TooLarge → list_any has_large_coefficient (forms_in (map (option_map (replaced serial new)) states)) ≡ true
   step-too_large same =
       let mapped : States = map (option_map (replaced serial new)) states in
-      let here = any_next states serial new i changes overflows unchanged added so_far at form some has_large_coefficient in
+      let here = any_next states serial new i overflows unchanged added so_far at form some has_large_coefficient in
       let large : list_any has_large_coefficient (forms_in (take (i + 1) mapped)) ≡ true = here ∙ or_true_right _ _ (said_of TooLarge same) in
       ap (λ ss. list_any has_large_coefficient (forms_in ss)) (sym (take-append-drop (i + 1) mapped))
       ∙ ap (list_any has_large_coefficient) (filter_map-append (λ form. form) (take (i + 1) mapped) (drop (i + 1) mapped))
@@ -173,7 +165,7 @@ module _ (states : States) (solved : IsSolved states) where
   }
 
 -- the form that is held is the new one, where nothing overflows
-pub solution_is : (states : States) (serial : ℕ) (new : LinearForm) (solution : Solution) → IsSolution solution new → (i : ℕ) (changes : List Change) (overflows : Bool) (unchanged added : ℕ) → IsTally states serial new i changes overflows unchanged added → overflows ≡ false → solution.form ≡ new
-solution_is states serial new solution is i changes overflows unchanged added tally fits =
+pub solution_is : (states : States) (serial : ℕ) (new : LinearForm) (solution : Solution) → IsSolution solution new → (i : ℕ) (overflows : Bool) (unchanged added : ℕ) → IsTally states serial new i overflows unchanged added → overflows ≡ false → solution.form ≡ new
+solution_is states serial new solution is i overflows unchanged added tally fits =
     let none : solution.overflows ≡ false = is.overflows ∙ or_left (has_large_constant new) _ (sym tally.overflow ∙ fits) in
     ap (λ ts. record { constant = solution.form.constant; terms = ts }) is.terms ∙ ap (λ k. record { constant = k; terms = new.terms }) (is.constant none)

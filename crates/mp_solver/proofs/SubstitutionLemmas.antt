@@ -1,24 +1,20 @@
 -- The pivot's new form replaces it, form by form.
-use Rattle.std.proofs.Common.{◌≡◌, ℕ, ◌+◌, ◌-◌, ◌<◌, ◌≤◌, ◌^◌, min, ℤ, ◌+ℤ◌, unsigned_abs, Bool, true, false, ◌||◌, cond, leb, ltb, List, [], ◌∷◌, ◌++◌, Option, Some, None, Ok, Err, zero, suc, map, length, get_or, set, take, drop, refl, sym, ap, ◌∙◌, subst, arith}
-use Rattle.std.specs.List.{list_any, sum_by, fold}
+use Rattle.std.proofs.Common.{◌≡◌, ℕ, ◌+◌, ◌-◌, ◌<◌, ◌≤◌, ◌^◌, min, ℤ, ◌+ℤ◌, unsigned_abs, Bool, true, false, ◌||◌, cond, leb, List, [], ◌∷◌, ◌++◌, Option, Some, None, zero, suc, map, length, get_or, take, drop, refl, sym, ap, ◌∙◌, subst, arith}
+use Rattle.std.specs.List.{list_any, sum_by}
 use Rattle.std.specs.Option.{option_map}
-use Rattle.std.proofs.lemmas.Bool.{ltb-true, ltb-false, le-leb, leb-true}
-use Rattle.std.proofs.lemmas.List.{take_more, drop_more, take_all, drop_all, append-nil, length-map, append_assoc, length-take-le}
-use Rattle.std.proofs.lemmas.List.Sums.{sum_by-append, sum_by-cons, fold-append}
+use Rattle.std.proofs.lemmas.List.{take_more, drop_more, take_all, drop_all, append-nil, length-map}
+use Rattle.std.proofs.lemmas.List.Sums.{sum_by-append, sum_by-cons}
 use Rattle.std.proofs.lemmas.List.Folds.{list_any-append}
-use Rattle.std.proofs.lemmas.List.Elements.{filter_map-append, All-nil, All-cons, All-append}
+use Rattle.std.proofs.lemmas.List.Elements.{filter_map-append}
 use Rattle.mp_pool.specs.declared.Term.{Term}
-use Rattle.mp_forms.specs.declared.fault.FormFault.TheVariants.{Overflow, CoefficientTooLarge}
 use Rattle.mp_pool.specs.Ratios.{times_fraction}
 use Rattle.mp_pool.specs.Terms.{sum_terms, is_too_large}
-use Rattle.mp_forms.specs.Forms.{LinearForm, sum_of}
-use Rattle.mp_solver.specs.declared.solution.Replacement.{Replacement}
-use Rattle.mp_solver.specs.declared.solution.Replacement.TheVariants.{Absent, Changed, Overflows, TooLarge}
-use Rattle.mp_solver.specs.declared.change.Change.{Change}
+use Rattle.mp_forms.specs.Forms.{LinearForm}
+use Rattle.mp_solver.specs.declared.view.Replacement.{Replacement}
+use Rattle.mp_solver.specs.declared.view.Replacement.TheVariants.{Absent, Changed, Overflows, TooLarge}
 use Rattle.mp_solver.specs.States.{States}
 use Rattle.mp_solver.specs.Elimination.{without, term_of, replaced, replaced_term, forms_in, has_large_coefficient, has_large_constant, term_count}
-use Rattle.mp_solver.specs.Storage.Solution.{replaced_sum, replacement_of}
-use Rattle.mp_solver.specs.Storage.Changes.{with_change}
+use Rattle.mp_solver.specs.Storage.Solution.{replacement_of}
 use Rattle.mp_solver.specs.Storage.Tally.{IsCount, IsTally}
 
 module _ (serial : ℕ) (new : LinearForm) (k : ℤ) (overflows : Bool) (same : overflows ≡ false → k ≡ new.constant) where
@@ -26,19 +22,12 @@ module _ (serial : ℕ) (new : LinearForm) (k : ℤ) (overflows : Bool) (same : 
   abbrev held : LinearForm
   held = record { constant = k; terms = new.terms }
 
-  -- what the answer says of the form q that it stands for
+  -- what the answer says of the form p, and of the form q that it becomes
   abbrev pub Says : LinearForm → LinearForm → Replacement → Type 0
   Says p q Absent = q ≡ p
-  Says p q (Changed form) = (has_large_coefficient q ≡ false) × (overflows ≡ false → (form ≡ q) × (has_large_constant q ≡ false))
+  Says p q (Changed m n) = (m ≡ length p.terms) × (n ≡ length q.terms) × (has_large_coefficient q ≡ false) × (overflows ≡ false → has_large_constant q ≡ false)
   Says p q Overflows = (has_large_coefficient q ≡ false) × (overflows ≡ false → has_large_constant q ≡ true)
   Says p q TooLarge = has_large_coefficient q ≡ true
-
-  not_below : (a b : ℕ) → ltb a b ≡ false → leb b a ≡ true
-  not_below a b e = le-leb b a (omega (arith, ltb-false a b e))
-
-  below_is : (a b : ℕ) (c : Bool) → leb b a ≡ c → ltb a b ≡ true → leb b a ≡ false
-  below_is a b true e lt = absurd (omega (arith, ltb-true a b lt, leb-true b a e))
-  below_is a b false e lt = e
 
   module _ (p : LinearForm) (t : Term) where
     abbrev terms : List Term
@@ -53,31 +42,29 @@ module _ (serial : ℕ) (new : LinearForm) (k : ℤ) (overflows : Bool) (same : 
     abbrev sum : LinearForm
     sum = record { constant = constant_new; terms = terms }
 
-    says_term : (a b : Bool) → list_any is_too_large terms ≡ a → ltb (unsigned_abs constant) (2 ^ 31) ≡ b →
-        Says p sum (replacement_of (Some (cond a (Err CoefficientTooLarge) (cond b (Ok (record { constant = constant; terms = terms })) (Err Overflow)))))
+    says_term : (a b : Bool) → list_any is_too_large terms ≡ a → leb (2 ^ 31) (unsigned_abs constant) ≡ b →
+        Says p sum (cond a TooLarge (cond b Overflows (Changed (length p.terms) (length terms))))
     says_term true b e f = e
     says_term false true e f = (
       e,
       λ fits.
-          let is : k ≡ new.constant = same fits in
-          let is' : constant ≡ constant_new = ap (λ n. p.constant +ℤ times_fraction t.coefficient n) is in (
-            ap (λ n. record { constant = n; terms = terms }) is',
-            below_is (unsigned_abs constant_new) (2 ^ 31) _ refl (ap (λ n. ltb (unsigned_abs n) (2 ^ 31)) (sym is') ∙ f),
-          ),
+          let is : constant ≡ constant_new = ap (λ n. p.constant +ℤ times_fraction t.coefficient n) (same fits) in
+          ap (λ n. leb (2 ^ 31) (unsigned_abs n)) (sym is) ∙ f,
     )
     says_term false false e f = (
+      refl,
+      refl,
       e,
       λ fits.
-          let is : k ≡ new.constant = same fits in
-          let is' : constant ≡ constant_new = ap (λ n. p.constant +ℤ times_fraction t.coefficient n) is in
-          not_below (unsigned_abs constant_new) (2 ^ 31) (ap (λ n. ltb (unsigned_abs n) (2 ^ 31)) (sym is') ∙ f),
+          let is : constant ≡ constant_new = ap (λ n. p.constant +ℤ times_fraction t.coefficient n) (same fits) in
+          ap (λ n. leb (2 ^ 31) (unsigned_abs n)) (sym is) ∙ f,
     )
 
-  says_by : (p : LinearForm) (t : Option Term) → Says p (replaced_term serial new p t) (replacement_of (option_map (λ t. sum_of t.coefficient (record p { terms = without serial p.terms }) held) t))
+  says_by : (p : LinearForm) (t : Option Term) → Says p (replaced_term serial new p t) (replacement_of p (replaced_term serial held p t) t)
   says_by p None = refl
   says_by p (Some t) = says_term p t _ _ refl refl
 
-  pub says : (p : LinearForm) (answer : Replacement) → answer ≡ replacement_of (replaced_sum serial held p) → Says p (replaced serial new p) answer
+  pub says : (p : LinearForm) (answer : Replacement) → answer ≡ replacement_of p (replaced serial held p) (term_of serial p.terms) → Says p (replaced serial new p) answer
   says p answer is = subst (Says p (replaced serial new p)) (sym is) (says_by p (term_of serial p.terms))
 
 -- one more state
@@ -105,16 +92,10 @@ term_count-more done q =
     ∙ sum_by-append (λ p. length p.terms) (forms_in done) (q ∷ [])
     ∙ ap (λ n. term_count done + n) (omega arith)
 
-get_or-map : (f : LinearForm → LinearForm) (states : States) (i : ℕ) → get_or (map (option_map f) states) i None ≡ option_map f (get_or states i None)
+pub get_or-map : (f : LinearForm → LinearForm) (states : States) (i : ℕ) → get_or (map (option_map f) states) i None ≡ option_map f (get_or states i None)
 get_or-map f [] i = refl
 get_or-map f (s ∷ ss) zero = refl
 get_or-map f (s ∷ ss) (suc i) = get_or-map f ss i
-
-set-seam : (xs ys : States) (old y : Option LinearForm) (i : ℕ) → i ≡ length xs → set (xs ++ old ∷ ys) i y ≡ xs ++ y ∷ ys
-set-seam [] ys old y zero is = refl
-set-seam [] ys old y (suc i) is = absurd (omega (arith, is))
-set-seam (x ∷ xs) ys old y zero is = absurd (omega (arith, is))
-set-seam (x ∷ xs) ys old y (suc i) is = ap (λ zs. x ∷ zs) (set-seam xs ys old y i (omega (arith, is)))
 
 stays_by : (a b : Bool) → (a ≡ false → b ≡ false) → a ≡ (a || b)
 stays_by true b none = refl
@@ -124,12 +105,12 @@ grows_by : (a b : Bool) → (a ≡ false → b ≡ true) → true ≡ (a || b)
 grows_by true b some = refl
 grows_by false b some = sym (some refl)
 
-module _ (states : States) (serial : ℕ) (new : LinearForm) (i : ℕ) (changes : List Change) (overflows : Bool) (unchanged added : ℕ) (so_far : IsTally states serial new i changes overflows unchanged added) where
+module _ (states : States) (serial : ℕ) (new : LinearForm) (i : ℕ) (overflows : Bool) (unchanged added : ℕ) (so_far : IsTally states serial new i overflows unchanged added) where
   abbrev all_mapped : States
   all_mapped = map (option_map (replaced serial new)) states
 
   -- there is no state any more
-  pub IsTally-past : length states ≤ i → IsTally states serial new (i + 1) changes overflows unchanged added
+  pub IsTally-past : length states ≤ i → IsTally states serial new (i + 1) overflows unchanged added
   IsTally-past past =
       let same = length-map states (option_map (replaced serial new)) in
       let front : take (i + 1) all_mapped ≡ take i all_mapped = take_all (i + 1) all_mapped (omega (arith, past, same)) ∙ sym (take_all i all_mapped (omega (arith, past, same))) in
@@ -137,15 +118,13 @@ module _ (states : States) (serial : ℕ) (new : LinearForm) (i : ℕ) (changes 
       record {
         small = ap (λ ss. list_any has_large_coefficient (forms_in ss)) front ∙ so_far.small;
         overflow = so_far.overflow ∙ ap (λ ss. has_large_constant new || list_any has_large_constant (forms_in ss)) (sym front);
-        applied = λ fits few. rw (front, back) (so_far.applied fits few);
         counted = λ fits. rw (front, back) (so_far.counted fits);
         rest = rw back so_far.rest;
         few = so_far.few;
         bounded = so_far.bounded;
-        within = so_far.within;
       }
 
-module _ (states : States) (serial : ℕ) (new : LinearForm) (i : ℕ) (changes : List Change) (overflows : Bool) (unchanged added : ℕ) (so_far : IsTally states serial new i changes overflows unchanged added) (at : i < length states) where
+module _ (states : States) (serial : ℕ) (new : LinearForm) (i : ℕ) (overflows : Bool) (unchanged added : ℕ) (so_far : IsTally states serial new i overflows unchanged added) (at : i < length states) where
   abbrev mapped : States
   mapped = map (option_map (replaced serial new)) states
 
@@ -156,7 +135,7 @@ module _ (states : States) (serial : ℕ) (new : LinearForm) (i : ℕ) (changes 
   in_mapped = let same = length-map states (option_map (replaced serial new)) in omega (arith, at, same)
 
   -- an independent unknown
-  pub IsTally-none : get_or states i None ≡ None → IsTally states serial new (i + 1) changes overflows unchanged added
+  pub IsTally-none : get_or states i None ≡ None → IsTally states serial new (i + 1) overflows unchanged added
   IsTally-none none =
       let m : get_or mapped i None ≡ None = get_or-map (replaced serial new) states i ∙ ap (option_map (replaced serial new)) none in
       let next : take (i + 1) mapped ≡ done ++ None ∷ [] = take_more mapped i None in_mapped ∙ ap (λ s. done ++ s ∷ []) m in
@@ -166,7 +145,6 @@ module _ (states : States) (serial : ℕ) (new : LinearForm) (i : ℕ) (changes 
       record {
         small = ap (list_any has_large_coefficient) forms ∙ so_far.small;
         overflow = so_far.overflow ∙ ap (λ fs. has_large_constant new || list_any has_large_constant fs) (sym forms);
-        applied = λ fits few. so_far.applied fits few ∙ ap (λ ss. done ++ ss) split ∙ sym (append_assoc done (None ∷ []) (drop (i + 1) states)) ∙ ap (λ ss. ss ++ drop (i + 1) states) (sym next);
         counted = λ fits.
             let before = so_far.counted fits in
             let front : term_count (take (i + 1) mapped) ≡ term_count done = ap (sum_by (λ p. length p.terms)) forms in
@@ -174,7 +152,6 @@ module _ (states : States) (serial : ℕ) (new : LinearForm) (i : ℕ) (changes 
         rest = omega (arith, so_far.rest, rest);
         few = so_far.few;
         bounded = so_far.bounded;
-        within = so_far.within;
       }
 
   module _ (form : LinearForm) (some : get_or states i None ≡ Some form) where
@@ -190,17 +167,8 @@ module _ (states : States) (serial : ℕ) (new : LinearForm) (i : ℕ) (changes 
     pub any_next : (test : LinearForm → Bool) → list_any test (forms_in (take (i + 1) mapped)) ≡ (list_any test (forms_in done) || test q)
     any_next test = ap (λ ss. list_any test (forms_in ss)) next ∙ list_any-more test done q
 
-    length_done : i ≡ length done
-    length_done = sym (length-take-le i mapped (omega (arith, in_mapped)))
-
     split : drop i states ≡ Some form ∷ drop (i + 1) states
     split = drop_more states i None at ∙ ap (λ s. s ∷ drop (i + 1) states) some
-
-    applied_before : overflows ≡ false → added ≤ 4000000 → fold with_change states changes ≡ done ++ Some form ∷ drop (i + 1) states
-    applied_before fits few = so_far.applied fits few ∙ ap (λ ss. done ++ ss) split
-
-    applied_next : done ++ Some q ∷ drop (i + 1) states ≡ take (i + 1) mapped ++ drop (i + 1) states
-    applied_next = sym (append_assoc done (Some q ∷ []) (drop (i + 1) states)) ∙ ap (λ ss. ss ++ drop (i + 1) states) (sym next)
 
     small_next : has_large_coefficient q ≡ false → list_any has_large_coefficient (forms_in (take (i + 1) mapped)) ≡ false
     small_next small = any_next has_large_coefficient ∙ rw (so_far.small, small) refl
@@ -222,11 +190,10 @@ module _ (states : States) (serial : ℕ) (new : LinearForm) (i : ℕ) (changes 
     unchanged_terms = omega (arith, so_far.rest, rest_before)
 
     -- a form that stays
-    pub IsTally-unchanged : q ≡ form → has_large_coefficient form ≡ false → has_large_constant form ≡ false → IsTally states serial new (i + 1) changes overflows unchanged added
+    pub IsTally-unchanged : q ≡ form → has_large_coefficient form ≡ false → has_large_constant form ≡ false → IsTally states serial new (i + 1) overflows unchanged added
     IsTally-unchanged is small constant = record {
       small = small_next (ap has_large_coefficient is ∙ small);
       overflow = overflow_next overflows (sym (ap (λ b. overflows || b) (ap has_large_constant is ∙ constant) ∙ or_false_right overflows));
-      applied = λ fits few. applied_before fits few ∙ ap (λ f. done ++ Some f ∷ drop (i + 1) states) (sym is) ∙ applied_next;
       counted = λ fits.
           let before = so_far.counted fits in
           let same : length q.terms ≡ length form.terms = ap (λ p. length p.terms) is in
@@ -234,64 +201,51 @@ module _ (states : States) (serial : ℕ) (new : LinearForm) (i : ℕ) (changes 
       rest = omega (arith, so_far.rest, rest_before);
       few = so_far.few;
       bounded = so_far.bounded;
-      within = so_far.within;
     }
 
-    -- a form that is another one now; where the new form itself overflows, it may be any
-    module _ (f : LinearForm) (less more : ℕ) (small : has_large_coefficient q ≡ false) (is : overflows ≡ false → (f ≡ q) × (has_large_constant q ≡ false))
-        (fewer : less ≡ unchanged - length form.terms) (count : more ≡ min (added + length f.terms) 4000001) where
-      counted_next : overflows ≡ false → IsCount new less more (term_count (take (i + 1) mapped) + term_count (drop (i + 1) states))
-      counted_next fits =
-          let before = so_far.counted fits in
-          let same : length f.terms ≡ length q.terms = ap (λ p. length p.terms) (is fits).0 in
-          let added_before = before.added_is in
-          let total = before.total_is in
-          record {
-            changed = before.changed + length q.terms;
-            added_is = omega (arith, count, same, added_before);
-            total_is = omega (arith, fewer, unchanged_terms, total, rest_before, count_next);
-          }
+    counted_next : (m n less more : ℕ) → m ≡ length form.terms → n ≡ length q.terms → less ≡ unchanged - m → more ≡ min (added + n) 4000001 → overflows ≡ false →
+        IsCount new less more (term_count (take (i + 1) mapped) + term_count (drop (i + 1) states))
+    counted_next m n less more before_is after_is fewer count fits =
+        let before = so_far.counted fits in
+        let added_before = before.added_is in
+        let total = before.total_is in
+        record {
+          changed = before.changed + length q.terms;
+          added_is = omega (arith, count, after_is, added_before);
+          total_is = omega (arith, fewer, before_is, unchanged_terms, total, rest_before, count_next);
+        }
 
-      pub IsTally-changed : more ≤ 4000000 → IsTally states serial new (i + 1) (changes ++ record { index = i; form = f } ∷ []) overflows less more
-      IsTally-changed held = record {
-        small = small_next small;
-        overflow = overflow_next overflows (stays_by overflows (has_large_constant q) (λ fits. (is fits).1));
-        applied = λ fits few.
-            fold-append with_change states changes (record { index = i; form = f } ∷ [])
-            ∙ ap (λ ss. set ss i (Some f)) (applied_before fits (omega (arith, count, held)))
-            ∙ set-seam done (drop (i + 1) states) (Some form) (Some f) i length_done
-            ∙ ap (λ f. done ++ Some f ∷ drop (i + 1) states) (is fits).0
-            ∙ applied_next;
-        counted = counted_next;
-        rest = omega (arith, fewer, so_far.rest, rest_before);
-        few = omega (arith, fewer, so_far.few);
-        bounded = omega (arith, count);
-        within = All-append (λ change. change.index < length states) changes (record { index = i; form = f } ∷ []) so_far.within
-            (All-cons (λ change. change.index < length states) (record { index = i; form = f }) [] at (All-nil (λ change. change.index < length states)));
-      }
-
-      -- the same beyond the limit of terms
-      pub IsTally-beyond : 4000000 < more → IsTally states serial new (i + 1) changes overflows less more
-      IsTally-beyond beyond = record {
-        small = small_next small;
-        overflow = overflow_next overflows (stays_by overflows (has_large_constant q) (λ fits. (is fits).1));
-        applied = λ fits few. absurd (omega (arith, beyond, few));
-        counted = counted_next;
-        rest = omega (arith, fewer, so_far.rest, rest_before);
-        few = omega (arith, fewer, so_far.few);
-        bounded = omega (arith, count);
-        within = so_far.within;
-      }
+    -- a form that is another one now
+    pub IsTally-changed : (m n less more : ℕ) → m ≡ length form.terms → n ≡ length q.terms → has_large_coefficient q ≡ false → (overflows ≡ false → has_large_constant q ≡ false) →
+        less ≡ unchanged - m → more ≡ min (added + n) 4000001 → IsTally states serial new (i + 1) overflows less more
+    IsTally-changed m n less more before_is after_is small constant fewer count = record {
+      small = small_next small;
+      overflow = overflow_next overflows (stays_by overflows (has_large_constant q) constant);
+      counted = counted_next m n less more before_is after_is fewer count;
+      rest = omega (arith, fewer, before_is, so_far.rest, rest_before);
+      few = omega (arith, fewer, so_far.few);
+      bounded = omega (arith, count);
+    }
 
     -- a form that overflows
-    pub IsTally-overflows : has_large_coefficient q ≡ false → (overflows ≡ false → has_large_constant q ≡ true) → IsTally states serial new (i + 1) changes true unchanged added
+    pub IsTally-overflows : has_large_coefficient q ≡ false → (overflows ≡ false → has_large_constant q ≡ true) → IsTally states serial new (i + 1) true unchanged added
     IsTally-overflows small large = record {
       small = small_next small;
       overflow = overflow_next true (grows_by overflows (has_large_constant q) large);
-      applied = λ fits few. absurd cc;
       counted = λ fits. absurd cc;
       rest = omega (arith, so_far.rest, rest_before);
       few = so_far.few;
       bounded = so_far.bounded;
-      within = so_far.within;
     }
+
+-- before the first form
+pub tally-start : (states : States) (serial : ℕ) (new : LinearForm) (overflows : Bool) (unchanged added : ℕ) → overflows ≡ has_large_constant new → unchanged ≡ term_count states → added ≡ min (length new.terms) 4000001 → unchanged ≤ 4000000 →
+    IsTally states serial new 0 overflows unchanged added
+tally-start states serial new overflows unchanged added over count more few = record {
+  small = refl;
+  overflow = over ∙ sym (or_false_right (has_large_constant new));
+  counted = λ fits. record { changed = 0; added_is = omega (arith, more); total_is = omega (arith, count) };
+  rest = omega (arith, count);
+  few = few;
+  bounded = omega (arith, more);
+}

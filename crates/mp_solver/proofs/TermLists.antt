@@ -172,3 +172,9 @@ pub changed_terms-more : (change : ℤ → ℤ) (before ts : List Term) (i : ℕ
 changed_terms-more change before ts i d lt =
     flat_map_more (λ t. lone_term t.serial (change t.coefficient)) before (take i ts) (get_or ts i d)
     ∙ ap (λ us. before ++ changed_terms change us) (sym (take_more ts i d lt))
+
+pub term_of-none : (serial : ℕ) (ts : List Term) → All (λ t. t.serial ≡ serial → ⊥) ts → term_of serial ts ≡ None
+term_of-none serial [] without = refl
+term_of-none serial (t ∷ ts) without =
+    let first = All-head (λ t. t.serial ≡ serial → ⊥) t ts without in
+    rw (ne_eqb t.serial serial first) (term_of-none serial ts (All-tail (λ t. t.serial ≡ serial → ⊥) t ts without))

@@ -26,9 +26,11 @@ pub record Unknowns : Type 0 where
   pub states : States
   pub names : List (Option (List ℕ))
 
--- a system as contracts see it
+-- a system as contracts see it: its unknowns, and how many more terms and forms there is room for
 pub record Solver : Type 0 where
   pub unknowns : Unknowns
+  pub spare : ℕ
+  pub spare_lists : ℕ
 
 -- the name of an unknown, where it has one
 abbrev pub name_of : Unknowns → ℕ → Option (List ℕ)

@@ -7,12 +7,13 @@
 //! those that hold its pivot and at no others.
 #![tactic(auto)]
 
-mod change;
 mod equated;
 mod exact;
+mod forms;
 mod fresh;
 mod limits;
 mod replay;
+mod rewriting;
 mod rows;
 mod solution;
 mod state;

@@ -1,8 +1,10 @@
 //! Which forms hold an unknown.
 
-ghost use Rattle.std.specs.Prelude.{◌≡◌, ◌<◌, ℕ, [], ◌∷◌, ◌++◌, drop, Contains, IfOk, IsTrue, if◌then◌else◌};
-ghost use Rattle.mp_solver.specs.Storage.Rows.{holders_of, IsListedFor, IsInOrder, StaysListed};
+ghost use Rattle.std.specs.Prelude.{◌≡◌, ◌<◌, ℕ, [], ◌∷◌, ◌++◌, None, drop, Contains, slice_index_or, IfOk, IsTrue, if◌then◌else◌};
+ghost use Rattle.mp_solver.specs.Storage.Rows.{holders_of, terms_in, IsListedFor, IsInOrder, StaysListed};
 
+use crate::Terms;
+use crate::forms::Forms;
 use mp_pool::Term;
 use mp_scaled::NoMemory;
 use std::alloc::Global;
@@ -74,40 +76,53 @@ fn add(holders: &mut Vec<Rows>, serial: u32, row: usize) -> bool
     holders[index].add(row)
 }
 
-/// The terms from the first on whose serial is this or a lower one.
-fn from_serial(terms: &[Term], serial: u32) -> &[Term]
-    ensures { (n : ℕ) × (result.now ≡ drop n terms.now) }
+/// Adds a row for the unknowns of terms, but for those that its form, where it has one, holds already. Says whether
+/// there was room for all.
+pub fn add_terms(holders: &mut Vec<Rows>, row: usize, forms: &Forms, new: &[Term]) -> bool
+    ensures stays { StaysListed holders.old.items holders.new.items }
+    ensures added { IsTrue result → IsListedFor holders.old.items row (terms_in (slice_index_or forms.now.states row None)) → IsListedFor holders.new.items row new.now }
 {
-    match terms.iter().position(|t| t.serial <= serial) {
-        Some(first) => &terms[first..],
-        None => &[],
+    match forms.get(row) {
+        Some(form) => add_others(holders, row, form.terms(), new),
+        None => add_each(holders, row, new),
     }
 }
 
-/// Adds a row for an unknown, but where the first of its old terms is one of that unknown.
-fn add_unless_first(holders: &mut Vec<Rows>, serial: u32, row: usize, old: &[Term]) -> bool
+/// Adds a row for the unknowns of terms.
+fn add_each(holders: &mut Vec<Rows>, row: usize, new: &[Term]) -> bool
     ensures stays { StaysListed holders.old.items holders.new.items }
-    ensures added { IsTrue result → IsListedFor holders.old.items row old.now → Contains (holders_of holders.new.items serial) row }
+    ensures added { IsTrue result → IsListedFor holders.new.items row new.now }
 {
-    if let Some(first) = old.first() {
-        if first.serial == serial {
-            return true;
+    let mut all = true;
+    'terms: for term in new {
+        if !add(holders, term.serial, row) {
+            all = false;
         }
+    }
+    all
+}
+
+/// Adds a row for an unknown, but where one of the terms that are left is of that unknown; those before it are passed.
+fn add_unless_next(holders: &mut Vec<Rows>, serial: u32, row: usize, rest: &mut Terms<'_>) -> bool
+    ensures stays { StaysListed holders.old.items holders.new.items }
+    ensures rest { (n : ℕ) × (rest.new ≡ drop n rest.old) }
+    ensures added { IsTrue result → IsListedFor holders.old.items row rest.new → Contains (holders_of holders.new.items serial) row }
+{
+    if rest.skip_to(serial) {
+        return true;
     }
     add(holders, serial, row)
 }
 
-/// Adds a row for the unknowns of its new terms, where its old terms have been added already. Says whether
-/// there was room for all.
-pub fn add_terms(holders: &mut Vec<Rows>, row: usize, old: &[Term], new: &[Term]) -> bool
+/// Adds a row for the unknowns of its new terms, where its old terms have been added already.
+fn add_others(holders: &mut Vec<Rows>, row: usize, old: Terms<'_>, new: &[Term]) -> bool
     ensures stays { StaysListed holders.old.items holders.new.items }
-    ensures added { IsTrue result → IsListedFor holders.old.items row old.now → IsListedFor holders.new.items row new.now }
+    ensures added { IsTrue result → IsListedFor holders.old.items row old.entry → IsListedFor holders.new.items row new.now }
 {
-    let mut all = true;
     let mut rest = old;
+    let mut all = true;
     'terms: for term in new {
-        rest = from_serial(rest, term.serial);
-        if !add_unless_first(holders, term.serial, row, rest) {
+        if !add_unless_next(holders, term.serial, row, &mut rest) {
             all = false;
         }
     }

@@ -2,11 +2,11 @@
 
 ghost use Rattle.std.specs.Prelude.{◌≡◌, ◌↔◌, ◌<◌, ◌≤◌, ◌^◌, ◌++◌, unsigned_abs, All, IfOk, OnOk, IfSome, IsNone};
 ghost use Rattle.mp_pool.specs.Terms.{lone_term, changed_terms, AreTerms};
-ghost use Rattle.mp_solver.specs.Elimination.{pivot_of, without, over_negative, solved_for, term_of, judged};
-ghost use Rattle.mp_solver.specs.Storage.Solution.{IsSolution, replaced_sum, replacement_of};
+ghost use Rattle.mp_solver.specs.Elimination.{pivot_of, without, over_negative, solved_for, judged};
+ghost use Rattle.mp_solver.specs.Storage.Solution.{IsSolution};
 
 use crate::Equated;
-use mp_forms::{Form, FormFault, terms_stay_in_order};
+use mp_forms::{Form, terms_stay_in_order};
 use mp_pool::Term;
 use mp_scaled::{NoMemory, make_fraction};
 use std::alloc::Global;
@@ -108,40 +108,6 @@ fn quotients(alloc: Global, v: i64, terms: &[Term]) -> Result<Vec<Term>, NoMemor
     Ok(quotients)
 }
 
-/// What becomes of a form in which the pivot's new form replaces it.
-#[derive(Drop)]
-pub enum Replacement {
-    /// The pivot does not occur.
-    Absent,
-    /// It is this form, unless the new form's own constant overflows.
-    Changed(Form),
-    /// Its constant overflows.
-    Overflows,
-    /// One of its coefficients is too large.
-    TooLarge,
-}
-
-/// The form with a new one in the row of an unknown.
-pub fn with_replaced(
-    alloc: Global,
-    serial: u32,
-    new: &Form,
-    form: &Form,
-) -> Result<Replacement, NoMemory>
-    ensures { IfOk result (λ answer. answer ≡ replacement_of (replaced_sum serial new.now form.now)) }
-{
-    let Some(term) = term_of(serial, form.terms()) else {
-        return Ok(Replacement::Absent);
-    };
-    let others = without(alloc, serial, form.terms())?;
-    let rest = Form::of_terms(form.constant(), others);
-    match rest.add_times(alloc, term.coefficient, new)? {
-        Ok(form) => Ok(Replacement::Changed(form)),
-        Err(FormFault::CoefficientTooLarge) => Ok(Replacement::TooLarge),
-        Err(_) => Ok(Replacement::Overflows),
-    }
-}
-
 /// What an equation between known numbers comes to, by their difference.
 pub fn judged(residual: i32) -> Equated
     ensures { result ≡ judged residual }
@@ -155,14 +121,3 @@ pub fn judged(residual: i32) -> Equated
 
 /// A difference of so many units of 2^-16 is an error of rounding.
 const REDUNDANT_LIMIT: u32 = 64;
-
-fn term_of(serial: u32, terms: &[Term]) -> Option<Term>
-    ensures { result ≡ term_of serial terms.now }
-{
-    'terms: for term in terms {
-        if term.serial == serial {
-            return Some(*term);
-        }
-    }
-    None
-}

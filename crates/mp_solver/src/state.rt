@@ -1,7 +1,7 @@
 use crate::FormView;
 
 /// What is known of an unknown.
-#[derive(Debug, Drop)]
+#[derive(Drop)]
 pub enum State<'a> {
     /// Nothing: it is independent.
     Independent,

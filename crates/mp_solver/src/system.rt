@@ -1,21 +1,23 @@
 //! All unknowns, and what is known of them.
 
-ghost use Rattle.std.specs.Prelude.{ℤ, ◌≡◌, ◌≢◌, ◌↔◌, ◌+◌, ◌<◌, ◌≤◌, [], None, length, slice_index_or, option_copied, IfOk, OnErr, IsTrue};
+ghost use Rattle.std.specs.Prelude.{ℤ, ◌≡◌, ◌≢◌, ◌↔◌, ◌+◌, ◌<◌, ◌≤◌, [], length, is_some, option_copied, IfOk, OnOk, OnErr, IsTrue};
 ghost use Rattle.mp_solver.specs.States.{form_of, name_of, unnamed, fresh_of, IsSerial, IsOver};
 ghost use Rattle.mp_solver.specs.Known.{form_in};
 ghost use Rattle.mp_solver.specs.Reduction.{independent_part, reduce_of};
-ghost use Rattle.mp_solver.specs.Elimination.{forms_in, eliminate, pivot_of, solved_for, IsRedundant, IsInconsistent, IsTooLarge, IsOverflow, IsBeyondLimit, IsAccepted};
+ghost use Rattle.mp_solver.specs.Elimination.{forms_in, term_count, eliminate, pivot_of, solved_for, IsRedundant, IsInconsistent, IsTooLarge, IsOverflow, IsBeyondLimit, IsAccepted};
 ghost use Rattle.mp_solver.specs.Solved.{IsReduced, IsSolved};
 ghost use Rattle.mp_solver.specs.Storage.Solution.{IsSolution};
 ghost use Rattle.mp_solver.specs.Storage.Rows.{AreHolders};
 ghost use Rattle.mp_solver.specs.Storage.Tally.{IsWholeTally};
-ghost use Rattle.mp_solver.specs.Ready.{prepared, IsResidual};
+ghost use Rattle.mp_solver.specs.Ready.{IsPrepared, HasRoom, IsResidual};
 
-use crate::change::{Change, apply};
+use crate::forms::Forms;
 use crate::limits::{TERM_LIMIT, UNKNOWN_LIMIT};
+use crate::rewriting::{Solved, solve};
 use crate::rows::{Rows, all_rows, make_room};
-use crate::solution::{Replacement, Solution, judged, pivot_of, solved_for, with_replaced};
+use crate::solution::{Solution, judged, pivot_of, solved_for};
 use crate::tally::Tally;
+use crate::view::Replacement;
 use crate::{Equated, FormView, Fresh, State};
 use mp_forms::{Form, FormFault, terms_stay_in_order};
 use mp_pool::Term;
@@ -24,16 +26,16 @@ use std::alloc::Global;
 use std::marker::Model;
 use std::snapshot::Snapshot;
 
-/// Unknowns, numbered from 1, which contracts see as their states and their names, under `unknowns`.
+/// Unknowns, numbered from 1, which contracts see as their states and their names, under `unknowns`, and the room that is
+/// left for terms and forms.
 ///
 /// A state is the form that a dependent unknown equals, and none where the unknown is independent. No
-/// dependent unknown occurs in any of these forms.
+/// dependent unknown occurs in any of these forms. Their terms are lists of one pool.
 #[derive(Drop)]
 pub struct System {
-    states: Vec<Option<Form>>,
+    forms: Forms,
     names: Vec<Option<Bytes>>,
     dependent: usize,
-    terms: usize,
     /// For each unknown the rows of the forms that it may occur in.
     holders: Vec<Rows>,
     /// Whether no form is missing there. `ready` makes room for what its equation adds, so only a `Ready` of
@@ -43,49 +45,54 @@ pub struct System {
 
 impl Model for System {
     ghost use Rattle.mp_solver.specs.States.{Solver};
+    ghost use Rattle.mp_solver.specs.Elimination.{term_count};
     ghost use Rattle.mp_solver.specs.Storage.Rows.{IsIndexed};
 
     ghost Value = { Solver };
 
-    ghost view = { λ system. record { unknowns = record { states = system.states.items; names = system.names.items } } };
+    ghost view = { λ system. record {
+      unknowns = record { states = system.forms.states; names = system.names.items };
+      spare = system.forms.spare;
+      spare_lists = system.forms.lists;
+    } };
 
-    ghost invariant = { λ system. IsIndexed system.states.items system.names.items system.dependent system.terms system.holders.items system.is_listed };
+    ghost invariant = { λ system. IsIndexed system.forms.states system.names.items system.dependent (term_count system.forms.states) system.holders.items system.is_listed };
 }
 
 /// An equation that was brought up to date, with all that it needs to be taken.
 ///
-/// Contracts see it as the difference of its sides, brought up to date, and the unknowns that this was done
-/// for.
+/// Contracts see it as the difference of its sides, brought up to date, the unknowns that this was done for, and the
+/// numbers of terms and forms that there has to be room for.
 #[derive(Drop)]
 pub struct Ready {
     residual: Snapshot<Form>,
     system: Snapshot<System>,
     answer: Equated,
-    changes: Vec<Change>,
-    terms: usize,
+    solved: Option<Solved>,
+    cells: usize,
+    lists: usize,
 }
 
 impl Model for Ready {
     ghost use Rattle.mp_solver.specs.Ready.{Prepared};
-    ghost use Rattle.mp_solver.specs.Storage.Changes.{IsReady};
+    ghost use Rattle.mp_solver.specs.Storage.Taking.{IsReady};
 
     ghost Value = { Prepared };
 
-    ghost view = { λ ready. record { residual = ready.residual.value; unknowns = ready.system.value.unknowns } };
+    ghost view = { λ ready. record { residual = ready.residual.value; unknowns = ready.system.value.unknowns; cells = ready.cells; lists = ready.lists } };
 
-    ghost invariant = { λ ready. IsReady ready.system.value.unknowns.states ready.residual.value ready.answer ready.changes.items ready.terms };
+    ghost invariant = { λ ready. IsReady ready.system.value.unknowns.states ready.residual.value ready.answer ready.solved ready.cells ready.lists };
 }
 
 impl System {
     /// A system without unknowns.
     pub fn new(alloc: Global) -> System
-        ensures { result ≡ record { unknowns = record { states = []; names = [] } } }
+        ensures { result ≡ record { unknowns = record { states = []; names = [] }; spare = 0; spare_lists = 0 } }
     {
         System {
-            states: Vec::new(alloc),
+            forms: Forms::new(alloc),
             names: Vec::new(alloc),
             dependent: 0,
-            terms: 0,
             holders: Vec::new(alloc),
             is_listed: true,
         }
@@ -95,19 +102,20 @@ impl System {
     pub fn fresh(&mut self, name: &[u8]) -> Result<Fresh, NoMemory>
         ensures exact { IfOk result (λ answer. (answer, self.new.unknowns) ≡ fresh_of self.old.unknowns name.now) }
         ensures limit { IfOk result (λ answer. (answer ≡ Fresh.Limit) ↔ (UNKNOWN_LIMIT ≤ length self.old.unknowns.states)) }
+        ensures room { (self.new.spare ≡ self.old.spare) × (self.new.spare_lists ≡ self.old.spare_lists) }
         ensures no_memory { OnErr result (self.new ≡ self.old) }
     {
-        if self.states.len() >= UNKNOWN_LIMIT {
+        if self.forms.count() >= UNKNOWN_LIMIT {
             return Ok(Fresh::Limit);
         }
-        let alloc = *self.states.allocator();
+        let alloc = *self.names.allocator();
         let name = Bytes::copy_of(alloc, name)?;
-        self.states.reserve(1)?;
+        self.names.reserve(1)?;
         self.holders.reserve(1)?;
-        self.names.push(Some(name))?;
-        self.holders.push(Rows::new(alloc))?;
-        self.states.push(None)?;
-        Ok(Fresh::Made(self.states.len() as u32))
+        self.forms.push()?;
+        self.names.push_reserved(Some(name));
+        self.holders.push_reserved(Rows::new(alloc));
+        Ok(Fresh::Made(self.forms.count() as u32))
     }
 
     /// Takes the name of an unknown away.
@@ -133,21 +141,21 @@ impl System {
     pub fn changes(&self) -> u64
         ensures { result ≡ length self.now.unknowns.states + length (forms_in self.now.unknowns.states) }
     {
-        self.states.len() as u64 + self.dependent as u64
+        self.forms.count() as u64 + self.dependent as u64
     }
 
     /// Whether all unknowns of a form are among these.
     pub fn has_unknowns_of(&self, form: &Form) -> bool
         ensures { IsTrue result ↔ IsOver self.now.unknowns.states form.now }
     {
-        form.terms().iter().all(|t| 1 <= t.serial && t.serial as usize <= self.states.len())
+        form.terms().iter().all(|t| 1 <= t.serial && t.serial as usize <= self.forms.count())
     }
 
     /// Whether there is an unknown with this serial.
     pub fn has_unknown(&self, serial: u32) -> bool
         ensures { IsTrue result ↔ IsSerial self.now.unknowns.states serial }
     {
-        1 <= serial && serial as usize <= self.states.len()
+        1 <= serial && serial as usize <= self.forms.count()
     }
 
     /// What is known of an unknown.
@@ -156,17 +164,33 @@ impl System {
         ensures { form_in result ≡ form_of self.now.unknowns.states serial }
     {
         match self.form_of(serial) {
-            Some(form) => State::Dependent(FormView::of(form)),
+            Some(form) => State::Dependent(form),
             None => State::Independent,
         }
     }
 
     /// What an unknown equals, and none where it is independent.
-    pub(crate) fn form_of(&self, serial: u32) -> Option<&Form>
+    fn form_of(&self, serial: u32) -> Option<FormView<'_>>
         requires { IsSerial self.now.unknowns.states serial }
-        ensures { option_copied result ≡ form_of self.now.unknowns.states serial }
+        ensures { result ≡ form_of self.now.unknowns.states serial }
     {
-        self.states[serial as usize - 1].as_ref()
+        self.forms.get(serial as usize - 1)
+    }
+
+    /// Whether an unknown equals a form.
+    fn is_dependent(&self, serial: u32) -> bool
+        requires { IsSerial self.now.unknowns.states serial }
+        ensures { result ≡ is_some (form_of self.now.unknowns.states serial) }
+    {
+        self.forms.has(serial as usize - 1)
+    }
+
+    /// The number of terms of the forms of all dependent unknowns, at most `TERM_LIMIT`.
+    pub fn used(&self) -> usize
+        ensures exact { result ≡ term_count self.now.unknowns.states }
+        ensures few { result ≤ TERM_LIMIT }
+    {
+        self.forms.used()
     }
 
     /// Laws: no dependent unknown occurs in what an unknown equals, and each of these forms is within the limits.
@@ -175,7 +199,7 @@ impl System {
         ensures few { length self.now.unknowns.states ≤ UNKNOWN_LIMIT }
         ensures names { length self.now.unknowns.names ≡ length self.now.unknowns.states }
     {
-        let _states = &self.states;
+        let _forms = &self.forms;
     }
 
     /// Whether a form is up to date: no dependent unknown occurs in it.
@@ -185,7 +209,7 @@ impl System {
     {
         let terms = form.terms();
         'terms: for term in terms {
-            if self.form_of(term.serial).is_some() {
+            if self.is_dependent(term.serial) {
                 return false;
             }
         }
@@ -205,7 +229,7 @@ impl System {
         ensures over { IfOk result (λ answer. IfOk answer (IsOver self.now.unknowns.states)) }
         ensures again { IfOk result (λ answer. IfOk answer (λ p. reduce_of self.now.unknowns.states p ≡ Ok p)) }
     {
-        let _states = &self.states;
+        let _forms = &self.forms;
         self.up_to_date(alloc, form)
     }
 
@@ -237,7 +261,8 @@ impl System {
         let terms = form.terms();
         'terms: for term in terms {
             if let Some(equal) = self.form_of(term.serial) {
-                match sum.add_times(alloc, term.coefficient, equal)? {
+                let equal = equal.to_form(alloc)?;
+                match sum.add_times(alloc, term.coefficient, &equal)? {
                     Ok(more) => sum = more,
                     Err(fault) => return Ok(Err(fault)),
                 }
@@ -253,7 +278,7 @@ impl System {
         let terms = form.terms();
         let mut independent = Vec::with_capacity(alloc, terms.len())?;
         'terms: for term in terms {
-            if self.form_of(term.serial).is_none() {
+            if !self.is_dependent(term.serial) {
                 independent.push(*term)?;
             }
         }
@@ -262,7 +287,8 @@ impl System {
 
     /// Takes an equation, and says what it comes to. Only an accepted one changes the system.
     pub fn equate(&mut self, ready: Ready) -> Equated
-        requires { ready.unknowns ≡ self.old.unknowns }
+        requires prepared { ready.unknowns ≡ self.old.unknowns }
+        requires room { HasRoom self.old ready }
         ensures exact { (result, self.new.unknowns.states) ≡ eliminate self.old.unknowns.states ready.residual }
         ensures names { self.new.unknowns.names ≡ self.old.unknowns.names }
         ensures redundant { (r : ℤ) → (result ≡ Equated.Redundant r) ↔ IsRedundant ready.residual r }
@@ -277,50 +303,44 @@ impl System {
     }
 
     fn take(&mut self, ready: Ready) -> Equated
-        requires { ready.unknowns ≡ self.old.unknowns }
+        requires prepared { ready.unknowns ≡ self.old.unknowns }
+        requires room { HasRoom self.old ready }
         ensures exact { (result, self.new.unknowns.states) ≡ eliminate self.old.unknowns.states ready.residual }
         ensures names { self.new.unknowns.names ≡ self.old.unknowns.names }
+        ensures refused { result ≢ Equated.Accepted → self.new ≡ self.old }
     {
         terms_stay_in_order();
         let Ready {
             residual: _,
             system: _,
             answer,
-            changes,
-            terms,
+            solved,
+            cells: _,
+            lists: _,
         } = ready;
-        let pivot = changes.last().map(|last| last.index);
-        let listed = apply(&mut self.states, &mut self.holders, changes);
-        self.is_listed &= listed;
-        if let Equated::Accepted = answer {
+        if let Some(solved) = solved {
+            let listed = solve(&mut self.forms, &mut self.holders, &solved);
+            self.is_listed &= listed;
+            // No form holds the pivot any more.
+            self.holders[solved.serial as usize - 1] = Rows::new(*self.names.allocator());
             self.dependent += 1;
-            self.terms = terms;
-        }
-        if let Some(row) = pivot {
-            self.forget_holders(row);
         }
         answer
     }
 
-    /// Frees the list of a dependent unknown, which no form holds any more.
-    fn forget_holders(&mut self, row: usize)
-        ensures { self.new ≡ self.old }
-    {
-        if self.form_at(row).is_some() {
-            self.holders[row] = Rows::new(*self.states.allocator());
-        }
-    }
-
     /// Brings an equation up to date, given as its left side minus its right, and makes all that it needs.
     ///
-    /// The answer is for this system as it stands, which it leaves as it is. A difference that cannot be
-    /// brought up to date is refused.
+    /// The answer is for this system as it stands, which it leaves as it is, but for the room that the equation needs. A
+    /// difference that cannot be brought up to date is refused.
     pub fn ready(&mut self, form: &Form) -> Result<Result<Ready, FormFault>, NoMemory>
         requires { IsOver self.old.unknowns.states form.now }
-        ensures exact { IfOk result (λ answer. answer ≡ prepared self.old.unknowns (reduce_of self.old.unknowns.states form.now)) }
-        ensures same { self.new ≡ self.old }
+        ensures exact { IfOk result (λ answer. IsPrepared self.old.unknowns (reduce_of self.old.unknowns.states form.now) answer) }
+        ensures room { IfOk result (λ answer. IfOk answer (HasRoom self.new)) }
+        ensures same { self.new.unknowns ≡ self.old.unknowns }
+        ensures spare { self.old.spare ≤ self.new.spare }
+        ensures spare_lists { self.old.spare_lists ≤ self.new.spare_lists }
     {
-        let alloc = *self.states.allocator();
+        let alloc = *self.names.allocator();
         match self.up_to_date(alloc, form)? {
             Ok(residual) => {
                 let ready = self.eliminated(alloc, &residual)?;
@@ -334,14 +354,14 @@ impl System {
     /// What an equation comes to, whose difference is up to date.
     fn eliminated(&self, alloc: Global, residual: &Form) -> Result<Ready, NoMemory>
         requires { IsResidual self.now.unknowns.states residual.now }
-        ensures { IfOk result (λ ready. ready ≡ record { residual = residual.now; unknowns = self.now.unknowns }) }
+        ensures { IfOk result (λ ready. (ready.residual ≡ residual.now) × (ready.unknowns ≡ self.now.unknowns)) }
     {
         match pivot_of(residual.terms()) {
             Some(pivot) => {
                 let solution = solved_for(alloc, pivot, residual)?;
                 self.substituted(alloc, residual, pivot, solution)
             }
-            None => Ok(self.refused(alloc, residual, judged(residual.constant()))),
+            None => Ok(self.refused(residual, judged(residual.constant()))),
         }
     }
 
@@ -356,66 +376,61 @@ impl System {
         requires residual { IsResidual self.now.unknowns.states residual.now }
         requires pivot { pivot_of residual.now.terms ≡ Some pivot }
         requires solution { IsSolution solution (solved_for pivot residual.now) }
-        ensures { IfOk result (λ ready. ready ≡ record { residual = residual.now; unknowns = self.now.unknowns }) }
+        ensures { IfOk result (λ ready. (ready.residual ≡ residual.now) × (ready.unknowns ≡ self.now.unknowns)) }
     {
         let rows = self.rows_of(alloc, pivot.serial)?;
-        let mut tally = Tally::new(alloc, self.terms, &solution.form, solution.overflows);
+        let terms = solution.form.terms().len();
+        let mut tally = Tally::new(self.used(), terms, solution.overflows);
         'rows: for row in &rows {
-            if let Some(old) = self.form_at(*row) {
-                match with_replaced(alloc, pivot.serial, &solution.form, old)? {
+            if let Some(old) = self.forms.get(*row) {
+                match old.replacement(pivot.serial, &solution.form) {
                     Replacement::Absent => {}
-                    Replacement::Changed(form) => tally.change(*row, old.terms().len(), form)?,
+                    Replacement::Changed(before, after) => tally.change(before, after),
                     Replacement::Overflows => tally.overflows = true,
                     Replacement::TooLarge => {
-                        return Ok(self.refused(alloc, residual, Equated::CoefficientTooLarge));
+                        return Ok(self.refused(residual, Equated::CoefficientTooLarge));
                     }
                 }
             }
         }
-        self.tallied(alloc, residual, pivot, solution.form, tally)
+        Ok(self.tallied(residual, pivot, solution.form, rows, tally))
     }
 
-    /// The answer, once the pivot's new form has replaced it in every form and no coefficient is too large.
+    /// The answer, once it is known what the pivot's new form makes of every form, and no coefficient is too large.
     fn tallied(
         &self,
-        alloc: Global,
         residual: &Form,
         pivot: Term,
         form: Form,
+        rows: Vec<usize>,
         tally: Tally,
-    ) -> Result<Ready, NoMemory>
+    ) -> Ready
         requires residual { IsResidual self.now.unknowns.states residual.now }
         requires pivot { pivot_of residual.now.terms ≡ Some pivot }
+        requires rows { AreHolders self.now.unknowns.states pivot.serial 0 rows.items }
         requires tally { IsWholeTally self.now.unknowns.states pivot.serial (solved_for pivot residual.now)
-            form tally.changes.items tally.overflows tally.unchanged tally.added }
-        ensures { IfOk result (λ ready. ready ≡ record { residual = residual.now; unknowns = self.now.unknowns }) }
+            form tally.overflows tally.unchanged tally.added tally.peak }
+        ensures { (result.residual ≡ residual.now) × (result.unknowns ≡ self.now.unknowns) }
     {
         if tally.overflows {
-            return Ok(self.refused(alloc, residual, Equated::Overflow));
+            return self.refused(residual, Equated::Overflow);
         }
-        let terms = tally.unchanged + tally.added;
-        if terms > TERM_LIMIT {
-            return Ok(self.refused(alloc, residual, Equated::Limit));
+        if tally.unchanged + tally.added > TERM_LIMIT {
+            return self.refused(residual, Equated::Limit);
         }
-        let mut changes = tally.changes;
-        changes.push(Change {
-            index: pivot.serial as usize - 1,
-            form,
-        })?;
-        Ok(Ready {
+        Ready {
             residual: Snapshot::of(residual),
             system: Snapshot::of(self),
             answer: Equated::Accepted,
-            changes,
-            terms,
-        })
-    }
-
-    /// The form at a row.
-    fn form_at(&self, row: usize) -> Option<&Form>
-        ensures { option_copied result ≡ slice_index_or self.now.unknowns.states row None }
-    {
-        self.states.get(row)?.as_ref()
+            solved: Some(Solved {
+                serial: pivot.serial,
+                form,
+                rows,
+            }),
+            // The spare cells and those of the forms have to hold as many terms as there are at the most.
+            cells: tally.peak - self.used(),
+            lists: 1,
+        }
     }
 
     /// The rows of the forms that may hold an unknown, in order.
@@ -426,34 +441,42 @@ impl System {
         if self.is_listed {
             self.holders[serial as usize - 1].in_order(alloc)
         } else {
-            all_rows(alloc, self.states.len())
+            all_rows(alloc, self.forms.count())
         }
     }
 
-    /// Makes room for the rows that an equation adds: each unknown in the pivot's new form, which is the
-    /// last, may come into each form that changes.
+    /// Makes room for what an equation adds: terms and a form, and rows, since each unknown in the pivot's new form may
+    /// come into each form that changes.
     fn make_room(&mut self, ready: &Ready) -> Result<(), NoMemory>
-        ensures { self.new ≡ self.old }
+        ensures same { self.new.unknowns ≡ self.old.unknowns }
+        ensures spare { self.old.spare ≤ self.new.spare }
+        ensures spare_lists { self.old.spare_lists ≤ self.new.spare_lists }
+        ensures room { OnOk result (HasRoom self.new ready.now) }
     {
-        if let Some(last) = ready.changes.last() {
-            make_room(&mut self.holders, last.form.terms(), ready.changes.len())?;
+        if let Some(solved) = &ready.solved {
+            make_room(
+                &mut self.holders,
+                solved.form.terms(),
+                solved.rows.len() + 1,
+            )?;
         }
-        Ok(())
+        self.forms.reserve(ready.cells, ready.lists)
     }
 
     /// An equation that is not accepted.
-    fn refused(&self, alloc: Global, residual: &Form, answer: Equated) -> Ready
+    fn refused(&self, residual: &Form, answer: Equated) -> Ready
         requires residual { IsResidual self.now.unknowns.states residual.now }
         requires answer { (answer, self.now.unknowns.states) ≡ eliminate self.now.unknowns.states residual.now }
         requires not_accepted { answer ≢ Equated.Accepted }
-        ensures { result ≡ record { residual = residual.now; unknowns = self.now.unknowns } }
+        ensures { (result.residual ≡ residual.now) × (result.unknowns ≡ self.now.unknowns) }
     {
         Ready {
             residual: Snapshot::of(residual),
             system: Snapshot::of(self),
             answer,
-            changes: Vec::new(alloc),
-            terms: 0,
+            solved: None,
+            cells: 0,
+            lists: 0,
         }
     }
 }

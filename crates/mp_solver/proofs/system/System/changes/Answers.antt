@@ -4,4 +4,4 @@ use Rattle.mp_solver.proofs.system.System.changes.Goals as goal
 
 pub overflow_add-result : goal.overflow_add-result
 overflow_add-result c =
-    omega (arith, c.len.ensures, c.self.invariant.system.states_length, c.self.invariant.system.dependent_count, length-forms_in c.self.inside.states.items)
+    omega (arith, c.count.ensures, c.self.invariant.system.states_length, c.self.invariant.system.dependent_count, length-forms_in c.self.inside.forms.states)

@@ -1,5 +1,5 @@
-use Rattle.std.proofs.Common.{◌≡◌, ◌<◌, Bor, false, pos, Option, Some, None, length, get_or, refl, sym, ◌∙◌, arith}
-use Rattle.std.specs.Option.{option_copied, is_some}
+use Rattle.std.proofs.Common.{◌≡◌, ◌<◌, false, pos, Option, Some, None, length, get_or, refl, sym, ◌∙◌, arith}
+use Rattle.std.specs.Option.{is_some}
 use Rattle.std.proofs.lemmas.List.{take_all}
 use Rattle.std.proofs.lemmas.List.Elements.{All-more}
 use Rattle.mp_pool.specs.declared.Term.{Term}
@@ -11,7 +11,7 @@ use Rattle.mp_solver.proofs.system.System.is_reduced.Goals as goal
 abbrev none : Term
 none = record { serial = 0; coefficient = pos 0 }
 
-no_form : (form : Option (Bor LinearForm)) → is_some form ≡ false → option_copied form ≡ None
+no_form : (form : Option LinearForm) → is_some form ≡ false → form ≡ None
 no_form None is = refl
 no_form (Some form) is = absurd cc
 
@@ -21,7 +21,7 @@ terms-preserved c =
     let terms = c.terms-terms.result.now in
     let i = c.terms.term-index in
     let within : i < length terms = omega arith in
-    let here : form_of states (get_or terms i none).serial ≡ None = sym c.form_of.ensures ∙ no_form c.form_of.result (sym c.is_some.ensures ∙ c.if-is_some.false) in
+    let here : form_of states (get_or terms i none).serial ≡ None = no_form _ (sym c.is_dependent.ensures ∙ c.if-is_dependent.false) in
     All-more (λ t. form_of states t.serial ≡ None) terms i none within c.terms.invariant here
 
 pub returns : goal.returns

@@ -17,12 +17,12 @@ returns-then-self c =
     IfOk-weaker c.in_order.result (λ rows. IsInOrder (Contains c.index.result.now) rows.items) (λ rows. AreHolders c.args.self.now.unknowns.states serial 0 rows.items)
     (λ rows order.
     subst (λ ss. AreHolders ss serial 0 rows.items) states
-    (AreHolders-listed c.self.inside.states.items holders serial rows.items (c.self.invariant.listed c.if-self.true) (subst (λ xs. IsInOrder (Contains xs) rows.items) list order)))
+    (AreHolders-listed c.self.inside.forms.states holders serial rows.items (c.self.invariant.listed c.if-self.true) (subst (λ xs. IsInOrder (Contains xs) rows.items) list order)))
     c.in_order.ensures
 
 pub returns-else-self : goal.returns-else-self
 returns-else-self c =
     let states = ap (λ s. s.unknowns.states) c.self.view_is in
-    let count = c.len.ensures ∙ c.self.inside.states.ok.0 ∙ ap length states in
-    IfOk-weaker c.all_rows.result (λ rows. IsInOrder (λ row. row < c.len.result) rows.items) (λ rows. AreHolders c.args.self.now.unknowns.states c.args.serial 0 rows.items)
+    let count = c.count.ensures ∙ ap length states in
+    IfOk-weaker c.all_rows.result (λ rows. IsInOrder (λ row. row < c.count.result) rows.items) (λ rows. AreHolders c.args.self.now.unknowns.states c.args.serial 0 rows.items)
     (λ rows order. AreHolders-all c.args.self.now.unknowns.states c.args.serial rows.items (subst (λ n. IsInOrder (λ row. row < n) rows.items) count order)) c.all_rows.ensures
