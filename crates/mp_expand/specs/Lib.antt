@@ -1,0 +1,5 @@
+pub mod Fronts
+pub mod Expansion
+pub mod Steps
+pub mod Calls
+pub mod Advance
