@@ -9,7 +9,7 @@ use Rattle.mp_rules.specs.Steps.{in_machine}
 -- a run that is out of steps has used up its budget, and no rule asks for a file yet
 abbrev pub IsSpent : Cause → Machine → Type 0
 IsSpent (Refused error) t = Unit {0}
-IsSpent OutOfSteps t = t.budget ≤ t.steps
+IsSpent OutOfSteps t = t.expander.budget ≤ t.expander.steps
 IsSpent (Unread name) t = ⊥
 
 -- at its end an outcome's answer and machine are such

@@ -6,9 +6,10 @@ use Rattle.mp_values.specs.declared.word.Command.{Command}
 use Rattle.mp_values.specs.declared.word.SymbolCommand.{SymbolCommand}
 use Rattle.mp_vartree.specs.declared.names.Part.{Part}
 use Rattle.mp_vartree.specs.declared.names.Shape.{Shape}
+use Rattle.mp_expand.specs.declared.step.Want.{Want}
 use Rattle.mp_rules.specs.Machine.{Machine}
 use Rattle.mp_rules.specs.declared.chain_side.ChainSide.{ChainSide as Side}
-use Rattle.mp_rules.specs.Rules.{case, NextFront, next_front, NextRaw, next_raw, NumberThen, number_then, Factor, factor, VariableName, variable_name, Suffix, suffix, Group, group, PrimaryInside, primary_inside, Primary, primary, Leading, leading, SecondaryRest, secondary_rest, Secondary, secondary, TertiaryRest, tertiary_rest, ExpressionFrom, expression_from, Expression, expression, ChainSide, chain_side, ChainRest, chain_rest, Chain, chain, ShowList, show_list, SymbolList, symbol_list, DeclaredName, declared_name, TypeList, type_list, CommandRest, command_rest, Statement, statement, GroupStatements, group_statements, Statements, statements}
+use Rattle.mp_rules.specs.Rules.{case, NextFront, next_front, NextRaw, next_raw, Operand, operand, NumberThen, number_then, Factor, factor, VariableName, variable_name, NameFrom, name_from, Suffix, suffix, Group, group, PrimaryInside, primary_inside, Primary, primary, LeadingInside, leading_inside, Leading, leading, SecondaryRest, secondary_rest, Secondary, secondary, TertiaryRest, tertiary_rest, ExpressionFrom, expression_from, Expression, expression, ChainSide, chain_side, ChainRest, chain_rest, Chain, chain, ShowList, show_list, SymbolList, symbol_list, DeclaredName, declared_name, TypeList, type_list, CommandRest, command_rest, Statement, statement, GroupStatements, group_statements, Statements, statements}
 use Rattle.mp_rules.specs.Meaning.{the}
 use Rattle.mp_rules.proofs.Enough.{the_is}
 
@@ -19,6 +20,10 @@ next_front_is s = the_is NextFront s
 pub next_raw_is : (s : Machine) → the NextRaw s ≡ next_raw the s
 unfolding case
 next_raw_is s = the_is NextRaw s
+
+pub operand_is : (w : Want) (s : Machine) → the (Operand w) s ≡ operand the w s
+unfolding case
+operand_is w s = the_is (Operand w) s
 
 pub number_then_is : (n : ℤ) (s : Machine) → the (NumberThen n) s ≡ number_then the n s
 unfolding case
@@ -31,6 +36,10 @@ factor_is v s = the_is (Factor v) s
 pub variable_name_is : (symbol : ℕ) (s : Machine) → the (VariableName symbol) s ≡ variable_name the symbol s
 unfolding case
 variable_name_is symbol s = the_is (VariableName symbol) s
+
+pub name_from_is : (symbol root : ℕ) (parts : List Part) (s : Machine) → the (NameFrom symbol root parts) s ≡ name_from the symbol root parts s
+unfolding case
+name_from_is symbol root parts s = the_is (NameFrom symbol root parts) s
 
 pub suffix_is : (parts : List Part) (s : Machine) → the (Suffix parts) s ≡ suffix the parts s
 unfolding case
@@ -47,6 +56,10 @@ primary_inside_is s = the_is PrimaryInside s
 pub primary_is : (s : Machine) → the Primary s ≡ primary the s
 unfolding case
 primary_is s = the_is Primary s
+
+pub leading_inside_is : (s : Machine) → the LeadingInside s ≡ leading_inside the s
+unfolding case
+leading_inside_is s = the_is LeadingInside s
 
 pub leading_is : (s : Machine) → the Leading s ≡ leading the s
 unfolding case

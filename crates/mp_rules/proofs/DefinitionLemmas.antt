@@ -2,7 +2,7 @@
 use Rattle.std.proofs.Common.{◌≡◌, ◌≢◌, List, [], ◌∷◌, Option, Some, None, Result, Ok, Err, true, false, Bool, refl, sym, ap, subst, ◌∙◌}
 use Rattle.std.specs.Prelude.{nat_lt, if◌then◌else◌}
 use Rattle.mp_report.specs.declared.error.SourceError.TheVariants as error
-use Rattle.mp_values.specs.Outcome.{then, ◌>>=◌, Cause, Refused, OutOfSteps, stop_of, cause_of, error_of}
+use Rattle.mp_values.specs.Outcome.{then, ◌>>=◌, OutcomeBy, Cause, Refused, OutOfSteps, stop_of, cause_of, error_of}
 use Rattle.mp_values.specs.Outcome as act
 use Rattle.mp_values.specs.declared.fault.Fault.{Fault}
 use Rattle.mp_values.specs.declared.fault.Fault.TheVariants as fault
@@ -14,9 +14,11 @@ use Rattle.mp_macro.specs.Headings.{Reading}
 use Rattle.mp_macro.specs.Definitions.{start, is_whole}
 use Rattle.mp_acts.specs.Definitions.{group_symbols}
 use Rattle.mp_rules.specs.Machine.{Machine, Outcome, Rule}
-use Rattle.mp_rules.specs.Steps.{take_first, take_from, see}
+use Rattle.mp_expand.specs.Expansion.{Expansion}
+use Rattle.mp_expand.specs.Steps.{take_first, take_from}
+use Rattle.mp_rules.specs.Steps.{in_text, expanding, see}
 use Rattle.mp_rules.specs.Definitions.{read_in, pending_read, taken_read, unless_whole, read_on, definition_read}
-use Rattle.mp_rules.specs.declared.front.Front.TheVariants as front
+use Rattle.mp_expand.specs.declared.front.Front.TheVariants as front
 
 -- what is left when the first of a text was taken
 ok_is : {A C : Type 0} {x y : A} → ◌≡◌ {A = Result A C} (Ok x) (Ok y) → x ≡ y
@@ -31,15 +33,27 @@ some_is e = cc
 none_is_not : {A : Type 0} {x : A} → None ≡ Some x → ⊥
 none_is_not e = cc
 
-rest_by : (b : Bool) (x y : Pending) (s t u : Machine) → ◌≡◌ {A = Outcome (Option Pending)} (if b then Ok (Some y, u) else Err (OutOfSteps, s)) (Ok (Some x, t)) → y ∷ u.text ≡ x ∷ t.text
+rest_by : (b : Bool) (x y : Pending) (s t u : Expansion)
+    → ◌≡◌ {A = OutcomeBy Cause Expansion (Option Pending)} (if b then Ok (Some y, u) else Err (OutOfSteps, s)) (Ok (Some x, t)) → y ∷ u.text ≡ x ∷ t.text
 rest_by true x y s t u e =
     let pair = ok_is e in
-    ap (λ first. first ∷ u.text) (some_is (ap (λ p. p.0) pair)) ∙ ap (λ (p : Option Pending × Machine). x ∷ p.1.text) pair
+    ap (λ first. first ∷ u.text) (some_is (ap (λ p. p.0) pair)) ∙ ap (λ (p : Option Pending × Expansion). x ∷ p.1.text) pair
 rest_by false x y s t u e = absurd (err_is_not e)
 
-rest_is : (text : List Pending) (x : Pending) (s t : Machine) → take_from text s ≡ Ok (Some x, t) → text ≡ x ∷ t.text
-rest_is [] x s t e = absurd (none_is_not (ap (λ p. p.0) (ok_is e)))
-rest_is (y ∷ rest) x s t e = rest_by (nat_lt s.steps s.budget) x y s t _ e
+rest_from : (text : List Pending) (x : Pending) (s t : Expansion) → take_from text s ≡ Ok (Some x, t) → text ≡ x ∷ t.text
+rest_from [] x s t e = absurd (none_is_not (ap (λ p. p.0) (ok_is e)))
+rest_from (y ∷ rest) x s t e = rest_by (nat_lt s.steps s.budget) x y s t _ e
+
+in_expander : {A : Type 0} → A × Machine → OutcomeBy Cause Expansion A
+in_expander p = Ok (p.0, p.1.expander)
+
+of_text : {A : Type 0} (o : OutcomeBy Cause Expansion A) (x : A) (s t : Machine) → in_text s o ≡ Ok (x, t) → o ≡ Ok (x, t.expander)
+of_text {A = A} (Ok y) x s t e = ap (λ (p : A × Machine). in_expander p) (ok_is e)
+of_text (Err y) x s t e = absurd (err_is_not e)
+
+rest_is : (x : Pending) (s t : Machine) → expanding expanding take_first s ≡ Ok (Some x, t) → s.expander.text ≡ x ∷ t.expander.text
+unfolding take_first
+rest_is x s t e = rest_from s.expander.text x s.expander t.expander (of_text (take_from s.expander.text s.expander) (Some x) s t e)
 
 -- what is done with what was taken, by what is left behind it
 abbrev on : List Pending → Reading → Option Pending → Rule Reading
@@ -50,43 +64,43 @@ goes_on : (b : Bool) (r : Reading) (more : Rule Reading) (s : Machine) → b ≡
 goes_on b r more s e = ap (λ (b : Bool). unless_whole b r more s) e
 
 module _ (s t : Machine) (r : Reading) where
-  read_next : (now : Reading) (x : Pending) → take_first s ≡ Ok (Some x, t) → pending_read x r t ≡ Ok (now, t)
-      → read_on s.text r s ≡ unless_whole (is_whole now) now (read_on t.text now) t
-  unfolding read_on take_first
+  read_next : (now : Reading) (x : Pending) → expanding take_first s ≡ Ok (Some x, t) → pending_read x r t ≡ Ok (now, t)
+      → read_on s.expander.text r s ≡ unless_whole (is_whole now) now (read_on t.expander.text now) t
+  unfolding read_on
   read_next now x e f =
-      let left : s.text ≡ x ∷ t.text = rest_is s.text x s t e in
-      subst (λ (text : List Pending). read_on text r s ≡ unless_whole (is_whole now) now (read_on t.text now) t) (sym left)
-      (ap (λ (o : Outcome (Option Pending)). (then) o (on t.text r)) e ∙ ap (λ (o : Outcome Reading). (then) o (λ now. unless_whole (is_whole now) now (read_on t.text now))) f)
+      let left : s.expander.text ≡ x ∷ t.expander.text = rest_is x s t e in
+      subst (λ (text : List Pending). read_on text r s ≡ unless_whole (is_whole now) now (read_on t.expander.text now) t) (sym left)
+      (ap (λ (o : Outcome (Option Pending)). (then) o (on t.text r)) e ∙ ap (λ (o : Outcome Reading). (then) o (λ now. unless_whole (is_whole now) now (read_on t.expander.text now))) f)
 
-  take_stops_on : (text : List Pending) (c : Cause) → take_first s ≡ Err (c, t) → read_on text r s ≡ Err (c, t)
+  take_stops_on : (text : List Pending) (c : Cause) → expanding take_first s ≡ Err (c, t) → read_on text r s ≡ Err (c, t)
   unfolding read_on
   take_stops_on [] c e = ap (λ (o : Outcome (Option Pending)). (then) o (taken_read r)) e
   take_stops_on (x ∷ text) c e = ap (λ (o : Outcome (Option Pending)). (then) o (on text r)) e
 
-  pub read_step : (now : Reading) (x : Pending) → is_whole r ≡ false → take_first s ≡ Ok (Some x, t) → pending_read x r t ≡ Ok (now, t)
-      → unless_whole (is_whole r) r (read_on s.text r) s ≡ unless_whole (is_whole now) now (read_on t.text now) t
-  read_step now x more e f = goes_on (is_whole r) r (read_on s.text r) s more ∙ read_next now x e f
+  pub read_step : (now : Reading) (x : Pending) → is_whole r ≡ false → expanding take_first s ≡ Ok (Some x, t) → pending_read x r t ≡ Ok (now, t)
+      → unless_whole (is_whole r) r (read_on s.expander.text r) s ≡ unless_whole (is_whole now) now (read_on t.expander.text now) t
+  read_step now x more e f = goes_on (is_whole r) r (read_on s.expander.text r) s more ∙ read_next now x e f
 
-  pub take_stops : (c : Cause) → is_whole r ≡ false → take_first s ≡ Err (c, t) → unless_whole (is_whole r) r (read_on s.text r) s ≡ Err (c, t)
-  take_stops c more e = goes_on (is_whole r) r (read_on s.text r) s more ∙ take_stops_on s.text c e
+  pub take_stops : (c : Cause) → is_whole r ≡ false → expanding take_first s ≡ Err (c, t) → unless_whole (is_whole r) r (read_on s.expander.text r) s ≡ Err (c, t)
+  take_stops c more e = goes_on (is_whole r) r (read_on s.expander.text r) s more ∙ take_stops_on s.expander.text c e
 
-  read_stops_on : (text : List Pending) (x : Option Pending) (c : Cause) → take_first s ≡ Ok (x, t) → taken_read r x t ≡ Err (c, t) → read_on text r s ≡ Err (c, t)
+  read_stops_on : (text : List Pending) (x : Option Pending) (c : Cause) → expanding take_first s ≡ Ok (x, t) → taken_read r x t ≡ Err (c, t) → read_on text r s ≡ Err (c, t)
   unfolding read_on
   read_stops_on [] x c e f = ap (λ (o : Outcome (Option Pending)). (then) o (taken_read r)) e ∙ f
   read_stops_on (y ∷ text) x c e f =
       ap (λ (o : Outcome (Option Pending)). (then) o (on text r)) e ∙ ap (λ (o : Outcome Reading). (then) o (λ now. unless_whole (is_whole now) now (read_on text now))) f
 
-  pub read_stops : (x : Pending) (c : Cause) → is_whole r ≡ false → take_first s ≡ Ok (Some x, t) → pending_read x r t ≡ Err (c, t)
-      → unless_whole (is_whole r) r (read_on s.text r) s ≡ Err (c, t)
-  read_stops x c more e f = goes_on (is_whole r) r (read_on s.text r) s more ∙ read_stops_on s.text (Some x) c e f
+  pub read_stops : (x : Pending) (c : Cause) → is_whole r ≡ false → expanding take_first s ≡ Ok (Some x, t) → pending_read x r t ≡ Err (c, t)
+      → unless_whole (is_whole r) r (read_on s.expander.text r) s ≡ Err (c, t)
+  read_stops x c more e f = goes_on (is_whole r) r (read_on s.expander.text r) s more ∙ read_stops_on s.expander.text (Some x) c e f
 
-  pub text_ends : is_whole r ≡ false → take_first s ≡ Ok (None, t) → unless_whole (is_whole r) r (read_on s.text r) s ≡ Err (Refused error.FileEndedInText, t)
-  text_ends more e = goes_on (is_whole r) r (read_on s.text r) s more ∙ read_stops_on s.text None (Refused error.FileEndedInText) e refl
+  pub text_ends : is_whole r ≡ false → expanding take_first s ≡ Ok (None, t) → unless_whole (is_whole r) r (read_on s.expander.text r) s ≡ Err (Refused error.FileEndedInText, t)
+  text_ends more e = goes_on (is_whole r) r (read_on s.expander.text r) s more ∙ read_stops_on s.expander.text None (Refused error.FileEndedInText) e refl
 
 -- no definition is whole before its first item
 pub read_begun : (w : Definition) (s : Machine)
     → definition_read (start w group_symbols) s
-    ≡ unless_whole (is_whole (start w group_symbols)) (start w group_symbols) (read_on s.text (start w group_symbols)) (see front.EndOfText s)
+    ≡ unless_whole (is_whole (start w group_symbols)) (start w group_symbols) (read_on s.expander.text (start w group_symbols)) (see front.EndOfText s)
 read_begun definition.Def s = refl
 read_begun definition.Vardef s = refl
 read_begun definition.Primarydef s = refl

@@ -1,7 +1,6 @@
 -- On the meaning: how far each rule goes, and that more rules inside one another than enough change nothing.
-use Rattle.std.proofs.Common.{◌≡◌, ◌<◌, ◌≤◌, ◌+◌, ◌*◌, ℕ, ℤ, List, [], ◌∷◌, ◌++◌, length, zero, suc, refl, sym, subst, ap, ◌∙◌, arith, Option, Some, None, Ok, Err, Bool, true, false}
-use Rattle.std.specs.Prelude.{codes, nat_lt, if◌then◌else◌}
-use Rattle.std.proofs.lemmas.Bool.Decides.{nat_tests}
+use Rattle.std.proofs.Common.{◌≡◌, ◌<◌, ◌≤◌, ◌+◌, ◌*◌, ℕ, ℤ, List, [], ◌∷◌, ◌++◌, length, map, zero, suc, refl, sym, subst, ap, ◌∙◌, arith, Option, Some, None, Ok, Err, Bool, true, false}
+use Rattle.std.specs.Prelude.{codes, nat_lt}
 use Rattle.mp_report.specs.declared.error.Cap.TheVariants as cap
 use Rattle.mp_report.specs.declared.error.SourceError.TheVariants as error
 use Rattle.mp_values.specs.Outcome.{◌>>=◌, lift, Refused}
@@ -11,8 +10,9 @@ use Rattle.mp_values.specs.Words.{unary_of, name_of_definition, definition_of}
 use Rattle.mp_values.specs.declared.item.Item.{Item}
 use Rattle.mp_values.specs.declared.item.Item.TheVariants as item
 use Rattle.mp_values.specs.declared.meaning.Delimiters.{Delimiters}
-use Rattle.mp_values.specs.declared.meaning.Meaning.{Meaning}
-use Rattle.mp_values.specs.declared.meaning.Meaning.TheVariants as meaning
+use Rattle.mp_values.specs.declared.macros.Level.{Level}
+use Rattle.mp_values.specs.declared.macros.Level.TheVariants as level
+use Rattle.mp_values.specs.declared.macros.Macro.{Macro}
 use Rattle.mp_values.specs.declared.turn.Pending.{Pending}
 use Rattle.mp_values.specs.declared.turn.Pending.TheVariants as pending
 use Rattle.mp_values.specs.declared.value.Kind.{Kind}
@@ -38,7 +38,7 @@ use Rattle.mp_acts.specs.State.{symbol_name, symbol_meaning, internal_value}
 use Rattle.mp_acts.specs.Arithmetic.{known_number, fraction}
 use Rattle.mp_acts.specs.Arithmetic as act
 use Rattle.mp_acts.specs.Suffixes.{suffix_string, string_token, subscript}
-use Rattle.mp_acts.specs.Variables.{root_of, no_call, read, declare, define}
+use Rattle.mp_acts.specs.Variables.{root_of, macro_named, read, declare, define}
 use Rattle.mp_acts.specs.Definitions.{group_symbols}
 use Rattle.mp_macro.specs.Headings.{Reading}
 use Rattle.mp_macro.specs.Definitions.{start, is_whole, defined}
@@ -46,27 +46,36 @@ use Rattle.mp_macro.specs.Definitions.{read as read_item}
 use Rattle.mp_acts.specs.Lines.{show, speak}
 use Rattle.mp_acts.specs.Groups.{begin_group, end_group, with_each, let_symbol, delimiters, interim}
 use Rattle.mp_acts.specs.declared.target.Target.TheVariants as target
-use Rattle.mp_rules.specs.Machine.{Machine, weight, held_weight, coming, left}
-use Rattle.mp_rules.specs.Fronts.{front_of_meaning, taken_item, taken_as, refused_front, refused_raw, begins_primary, begins_factor, secondary_in, tertiary_in}
-use Rattle.mp_rules.specs.Steps.{take_first, take_from, enter, leave, see, see_string, hold}
+use Rattle.mp_rules.specs.Machine.{Machine, Rule, weight, held_weight, coming, left}
+use Rattle.mp_expand.specs.Fronts.{begins_primary, begins_factor, secondary_in, tertiary_in}
+use Rattle.mp_expand.specs.Calls.{are_pair}
+use Rattle.mp_expand.specs.declared.front.Front.{Front}
+use Rattle.mp_expand.specs.declared.front.Front.TheVariants as front
+use Rattle.mp_expand.specs.declared.step.Answer.TheVariants as answer
+use Rattle.mp_expand.specs.declared.step.Step.{Step}
+use Rattle.mp_expand.specs.declared.step.Step.TheVariants as step
+use Rattle.mp_expand.specs.declared.step.Want.{Want}
+use Rattle.mp_expand.specs.declared.step.Want.TheVariants as want
+use Rattle.mp_rules.specs.Fronts.{taken_item, taken_as, refused_front, refused_raw}
+use Rattle.mp_rules.specs.Steps.{leave, see, see_string, see_value, hold}
 use Rattle.mp_rules.specs.Chains.{settle}
 use Rattle.mp_rules.specs.Definitions.{read_in, taken_read, unless_whole, read_on}
-use Rattle.mp_rules.specs.declared.front.Front.{Front}
-use Rattle.mp_rules.specs.declared.front.Front.TheVariants as front
 use Rattle.mp_rules.specs.declared.front.Taken.{Taken}
 use Rattle.mp_rules.specs.declared.front.Taken.TheVariants as taken
-use Rattle.mp_rules.specs.declared.evaluator.TheConstants.{NESTING_LIMIT}
-use Rattle.mp_rules.specs.declared.suffixes.TheConstants.{PART_LIMIT}
+use Rattle.mp_vartree.specs.declared.names.TheConstants.{PART_LIMIT}
 use Rattle.mp_rules.specs.declared.front.Raw.{Raw}
 use Rattle.mp_rules.specs.declared.front.Raw.TheVariants as raw
 use Rattle.mp_rules.specs.declared.chain_side.ChainSide.{ChainSide as Side}
 use Rattle.mp_rules.specs.declared.chain_side.ChainSide.TheVariants as side
-use Rattle.mp_rules.specs.Rules.{Rules, What, NextFront, NextRaw, NumberThen, Factor, VariableName, Suffix, Group, PrimaryInside, Primary, Leading, SecondaryRest, Secondary, TertiaryRest, ExpressionFrom, Expression, ChainSide, ChainRest, Chain, ShowList, SymbolList, DeclaredName, TypeList, CommandRest, Statement, GroupStatements, Statements}
-use Rattle.mp_rules.specs.Rules.{shape_of, front_of_symbol, front_of, held_or_taken, next_front, raw_of, next_raw, symbol_in, raw_symbol, next_primary, next_expression, factor_by, over_by, then_by, number, room_by, room_for_part, part_on, bracket_by, bracketed, suffix_by, variable_name, variable, are_pair, closed_if, closed_by, parenthesis, group, string_primary, internal, str_primary, applied, applied_by, primary_by, primary, variable_side_by, internal_side_by, leading_by, leading, secondary_by, secondary, tertiary_by, expression_from, expression, side_from, chain_side, chain_on, lone_or_vacuous, chain_end, chain_by, chain, show_by, show_list, symbols_by, symbol_list, shape_on, empty_by, name_by, type_by, type_list, is_equals, equals_by, equals_in, raw_equals, let_equal, delimiter_pair, internal_in, assign_in, internal_name, assign_sign, interim_value, spoken, command_rest, definition, chain_if, statement_by, may_stand_alone, more_by, group_more, group_by, group_statements, end_by, statements, case}
-use Rattle.mp_rules.specs.Promises.{from, cost, used_by, used_by_side}
+use Rattle.mp_rules.specs.declared.named.Named.{Named}
+use Rattle.mp_rules.specs.declared.named.Named.TheVariants as named
+use Rattle.mp_rules.specs.Rules.{Rules, What, NextFront, NextRaw, Operand, NumberThen, Factor, VariableName, NameFrom, Suffix, Group, PrimaryInside, Primary, LeadingInside, Leading, SecondaryRest, Secondary, TertiaryRest, ExpressionFrom, Expression, ChainSide, ChainRest, Chain, ShowList, SymbolList, DeclaredName, TypeList, CommandRest, Statement, GroupStatements, Statements}
+use Rattle.mp_rules.specs.Rules.{shape_of, step_by, held_or_taken, next_front, item_of_part, operand_of, wanted_by, operand, raw_of, next_raw, symbol_in, raw_symbol, next_primary, next_expression, factor_by, over_by, then_by, number, room_by, room_for_part, part_on, bracket_by, bracketed, part_used, part_by, suffix_by, suffix, called_with, called_by, name_on, name_from_by, variable_name, variable_named, or_begun_anew, variable, closed_if, closed_by, parenthesis, group, string_primary, value_primary, internal, str_primary, applied, applied_by, primary_by, primary, variable_side_by, internal_side_by, leading_named, leading_by, leading, secondary_by, secondary, tertiary_by, expression_from, expression, side_from, chain_side, chain_on, lone_or_vacuous, chain_end, chain_by, chain, show_by, show_list, symbols_by, symbol_list, shape_on, empty_by, name_by, type_by, type_list, is_equals, equals_by, equals_in, raw_equals, let_equal, delimiter_pair, then_next, internal_in, assign_in, internal_name, assign_sign, interim_value, spoken, command_rest, definition, chain_if, statement_by, may_stand_alone, more_by, group_more, group_by, group_statements, end_by, statements, case}
+use Rattle.mp_rules.specs.Promises.{from, cost, cost_of_step, used_by, used_by_side, used_by_part, used_by_step}
 use Rattle.mp_rules.specs.Meaning.{rule, the, depth}
 use Rattle.mp_rules.proofs.Agreement.{After, Agree, AsMany, agree-then, weaker, stopped, given, acted}
 use Rattle.mp_rules.proofs.Ranks.{measure, deep}
+use Rattle.mp_rules.proofs.TextLemmas.{TookOne, took, advanced, answers, calls, entered}
 
 -- so many fronts may still be used at most, and so many were used for certain
 pub record FewerBy (bound used : ℕ) (t : Machine) : Type 0 where
@@ -81,14 +90,9 @@ pub record Below (r1 r2 : Rules) (m : ℕ) : Type 0 where
 
 -- ONE STEP
 
--- the first of the text was taken
-pub record TookOne (x : Option Pending) (s t : Machine) : Type 0 where
-  pub went : coming t + cost x ≤ coming s
-  pub hand : t.front ≡ s.front
-
 -- what was taken took a step, but for nothing
 abbrev taken_cost : Taken → ℕ
-taken_cost taken.Nothing = 0
+taken_cost (taken.Raw raw.EndOfText) = 0
 taken_cost x = 1
 
 cost_of_item : (x : Item) → taken_cost (taken_item x) ≤ 1
@@ -110,6 +114,7 @@ cost_of_taken None = omega arith
 weight_small : (x : Front) → weight x ≤ 1
 weight_small (front.Number n) = omega arith
 weight_small front.Text = omega arith
+weight_small front.Capsule = omega arith
 weight_small (front.Word symbol w) = omega arith
 weight_small (front.Tag symbol) = omega arith
 weight_small (front.Internal symbol k) = omega arith
@@ -117,73 +122,69 @@ weight_small (front.Left symbol pair) = omega arith
 weight_small (front.Right symbol pair) = omega arith
 weight_small front.EndOfText = omega arith
 
-taken_from : (text : List Pending) (s : Machine) → After (take_from text s) (λ x. TookOne x s)
-taken_from [] s = record { went = omega arith; hand = refl }
-taken_from (x ∷ text) s = grind (arith, nat_tests)
-
-took : (s : Machine) → Agree (take_first s) (take_first s) (λ x. TookOne x s)
-unfolding take_first
-took s = record { same = refl; went = taken_from s.text s }
-
-entered_by : (b : Bool) (s : Machine)
-    → After {A = Unit {0}} (if b then Ok (tt, record s { nesting = s.nesting + 1 }) else Err (Refused (error.Limit cap.Nesting NESTING_LIMIT), s)) (λ x. AsMany s)
-entered_by true s = record { went = refl; hand = refl }
-entered_by false s = tt
-
-entered : (s : Machine) → Agree (enter s) (enter s) (λ x. AsMany s)
-unfolding enter
-entered s = record { same = refl; went = entered_by (nat_lt s.nesting NESTING_LIMIT) s }
-
 -- FRONTS AND RAW ITEMS
 
 -- a front comes to hand in place of the last one
-seen : (x : Front) (b : ℕ) (t : Machine) → coming t + 1 ≤ b → Agree {A = Unit {0}} (Ok (tt, see x t)) (Ok (tt, see x t)) (λ next. Fewer b)
-seen x b t p = let small : weight x ≤ 1 = weight_small x in given tt (see x t) (λ next. Fewer b) (record { went = omega arith })
+seen : (x : Front) (b : ℕ) (t : Machine) → coming t + weight x ≤ b → Agree {A = Unit {0}} (Ok (tt, see x t)) (Ok (tt, see x t)) (λ next. Fewer b)
+seen x b t p = given tt (see x t) (λ next. Fewer b) (record { went = omega arith })
 
-meaning-agrees : (symbol : ℕ) (m : Meaning) (t : Machine) → Agree (front_of_meaning symbol m t) (front_of_meaning symbol m t) (λ next u. u ≡ t)
-meaning-agrees symbol (meaning.Word w) t = given (front.Word symbol w) t (λ next u. u ≡ t) refl
-meaning-agrees symbol (meaning.Unbuilt name) t = stopped (not_built name) t (λ next u. u ≡ t) tt
-meaning-agrees symbol meaning.NewTag t = given (front.Tag symbol) t (λ next u. u ≡ t) refl
-meaning-agrees symbol (meaning.Tag root) t = given (front.Tag symbol) t (λ next u. u ≡ t) refl
-meaning-agrees symbol (meaning.Internal k) t = given (front.Internal symbol k) t (λ next u. u ≡ t) refl
-meaning-agrees symbol (meaning.Left pair) t = given (front.Left symbol pair) t (λ next u. u ≡ t) refl
-meaning-agrees symbol (meaning.Right pair) t = given (front.Right symbol pair) t (λ next u. u ≡ t) refl
-meaning-agrees symbol (meaning.Macro m) t = stopped (not_built (name_of_definition (definition_of m.level))) t (λ next u. u ≡ t) tt
+front_cost : (x : Front) → weight x ≤ cost_of_step (step.Front x)
+front_cost (front.Number n) = omega arith
+front_cost front.Text = omega arith
+front_cost front.Capsule = omega arith
+front_cost (front.Word symbol w) = omega arith
+front_cost (front.Tag symbol) = omega arith
+front_cost (front.Internal symbol k) = omega arith
+front_cost (front.Left symbol pair) = omega arith
+front_cost (front.Right symbol pair) = omega arith
+front_cost front.EndOfText = omega arith
 
-front_of_symbol-agrees : (symbol : ℕ) (b : ℕ) (t : Machine) → coming t + 1 ≤ b → Agree (front_of_symbol symbol t) (front_of_symbol symbol t) (λ next. Fewer b)
-front_of_symbol-agrees symbol b t p =
-    agree-then (meaning-agrees symbol (symbol_meaning t.acts symbol) t) (λ x u e.
-    let F : Machine → Type 0 = λ w. Agree {A = Unit {0}} (Ok (tt, see x w)) (Ok (tt, see x w)) (λ next. Fewer b) in
-    subst F (sym e) (seen x b t p))
-
-front_of-agrees : (r1 r2 : Rules) (x : Taken) (b k : ℕ) (t : Machine) → coming t + k ≤ b → taken_cost x ≤ k → Below r1 r2 (64 * b)
-    → Agree (front_of r1 x t) (front_of r2 x t) (λ next. Fewer b)
-front_of-agrees r1 r2 (taken.Symbol symbol) b k t p c h = front_of_symbol-agrees symbol b t (omega arith)
-front_of-agrees r1 r2 (taken.Number n) b k t p c h = seen (front.Number n) b t (omega arith)
-front_of-agrees r1 r2 (taken.Text bytes) b k t p c h = given tt (see_string bytes t) (λ next. Fewer b) (record { went = omega arith })
-front_of-agrees r1 r2 (taken.Bad cause) b k t p c h = stopped (bad_token cause) t (λ next. Fewer b) tt
-front_of-agrees r1 r2 taken.Passed b k t p c h = weaker (h.at NextFront t (omega arith)) (λ next u q. record { went = omega arith })
-front_of-agrees r1 r2 taken.Nothing b k t p c h = given tt (see front.EndOfText t) (λ next. Fewer b) (record { went = omega arith })
+step_by-agrees : (r1 r2 : Rules) (x : Step) (b : ℕ) (t : Machine) → coming t + cost_of_step x ≤ b → Below r1 r2 (64 * b)
+    → Agree (step_by r1 x t) (step_by r2 x t) (λ next. Fewer b)
+step_by-agrees r1 r2 step.More b t p h = weaker (h.at NextFront t (omega arith)) (λ next u q. record { went = omega arith })
+step_by-agrees r1 r2 (step.Front x) b t p h = let small : weight x ≤ cost_of_step (step.Front x) = front_cost x in seen x b t (omega arith)
+step_by-agrees r1 r2 (step.Text bytes) b t p h = given tt (see_string bytes t) (λ next. Fewer b) (record { went = omega arith })
+step_by-agrees r1 r2 (step.Capsule v) b t p h = given tt (see_value v t) (λ next. Fewer b) (record { went = omega arith })
+step_by-agrees r1 r2 (step.Want w) b t p h =
+    agree-then (h.at (Operand w) t (omega arith)) (λ served u q.
+    weaker (h.at NextFront u (omega arith)) (λ next y a. record { went = omega arith }))
 
 held-agrees : (r1 r2 : Rules) (held : Option Front) (s : Machine) → held_weight held ≤ held_weight s.held → Below r1 r2 (64 * coming s)
     → Agree (held_or_taken r1 held s) (held_or_taken r2 held s) (λ next. Fewer (coming s))
 held-agrees r1 r2 (Some x) s p h = given tt (record s { front = x; held = None }) (λ next. Fewer (coming s)) (record { went = omega arith })
-held-agrees r1 r2 None s p h = agree-then (took s) (λ x t q. front_of-agrees r1 r2 (taken_as x) (coming s) (cost x) t q.went (cost_of_taken x) h)
+held-agrees r1 r2 None s p h = agree-then (advanced s) (λ x t q. step_by-agrees r1 r2 x (coming s) t q.went h)
 
 next_front-agrees : (r1 r2 : Rules) (s : Machine) → Below r1 r2 (64 * coming s) → Agree (next_front r1 s) (next_front r2 s) (λ next. Fewer (coming s))
 next_front-agrees r1 r2 s h = held-agrees r1 r2 s.held s (omega arith) h
 
-raw_given : (x : Raw) (s t : Machine) (k : ℕ) → coming t + k ≤ coming s → t.front ≡ front.EndOfText → Agree (Ok (x, t)) (Ok (x, t)) (λ next. Fewer (coming s))
-raw_given x s t k p e = let none : weight t.front ≡ 0 = ap weight e in given x t (λ next. Fewer (coming s)) (record { went = omega arith })
+operand_of-agrees : (r1 r2 : Rules) (w : Want) (m : ℕ) (s : Machine) → 64 * left s + 9 < m → Below r1 r2 m
+    → Agree (operand_of r1 w s) (operand_of r2 w s) (λ answer. Fewer (left s))
+operand_of-agrees r1 r2 want.Expression m s c h =
+    agree-then (h.at Expression s (omega arith)) (λ v t p. given (answer.Value v) t (λ answer. Fewer (left s)) (record { went = p.went }))
+operand_of-agrees r1 r2 want.Suffix m s c h =
+    agree-then (h.at (Suffix []) s (omega arith)) (λ parts t p. given (answer.Suffix (map item_of_part parts)) t (λ answer. Fewer (left s)) (record { went = p.went }))
+
+wanted_by-agrees : (r1 r2 : Rules) (x : Step) (b m : ℕ) (t : Machine) → left t + used_by_step x ≤ b → 64 * b + 10 ≤ m → Below r1 r2 m
+    → Agree (wanted_by r1 x t) (wanted_by r2 x t) (λ next. Fewer b)
+wanted_by-agrees r1 r2 (step.Want w) b m t p c h = weaker (h.at (Operand w) t (omega arith)) (λ next u q. record { went = omega arith })
+wanted_by-agrees r1 r2 step.More b m t p c h = given tt t (λ next. Fewer b) (record { went = p })
+wanted_by-agrees r1 r2 (step.Front x) b m t p c h = given tt t (λ next. Fewer b) (record { went = p })
+wanted_by-agrees r1 r2 (step.Text bytes) b m t p c h = given tt t (λ next. Fewer b) (record { went = p })
+wanted_by-agrees r1 r2 (step.Capsule v) b m t p c h = given tt t (λ next. Fewer b) (record { went = p })
+
+operand-agrees : (r1 r2 : Rules) (w : Want) (s : Machine) → Below r1 r2 (measure (Operand w) s)
+    → Agree (operand r1 w s) (operand r2 w s) (λ next. Fewer (coming s))
+operand-agrees r1 r2 w s h =
+    agree-then (h.at NextFront s (omega arith)) (λ first t p.
+    agree-then (operand_of-agrees r1 r2 w _ t (omega arith) h) (λ a u q.
+    agree-then (answers a u) (λ x y e.
+    wanted_by-agrees r1 r2 x (coming s) _ y (omega (arith, p.went, q.went, e.went)) (omega arith) h)))
 
 raw_of-agrees : (r1 r2 : Rules) (x : Taken) (s t : Machine) (k : ℕ) → coming t + k ≤ coming s → taken_cost x ≤ k → t.front ≡ front.EndOfText
     → Below r1 r2 (64 * coming s) → Agree (raw_of r1 x t) (raw_of r2 x t) (λ next. Fewer (coming s))
-raw_of-agrees r1 r2 (taken.Symbol symbol) s t k p c e h = raw_given (raw.Symbol symbol) s t k p e
-raw_of-agrees r1 r2 (taken.Number n) s t k p c e h = raw_given raw.Number s t k p e
-raw_of-agrees r1 r2 (taken.Text bytes) s t k p c e h = raw_given raw.Text s t k p e
+raw_of-agrees r1 r2 (taken.Raw x) s t k p c e h = let none : weight t.front ≡ 0 = ap weight e in given x t (λ next. Fewer (coming s)) (record { went = omega arith })
 raw_of-agrees r1 r2 (taken.Bad cause) s t k p c e h = stopped (bad_token cause) t (λ next. Fewer (coming s)) tt
 raw_of-agrees r1 r2 taken.Passed s t k p c e h = weaker (h.at NextRaw t (omega arith)) (λ next u q. record { went = omega arith })
-raw_of-agrees r1 r2 taken.Nothing s t k p c e h = raw_given raw.EndOfText s t k p e
 
 next_raw-agrees : (r1 r2 : Rules) (s : Machine) → Below r1 r2 (64 * coming s) → Agree (next_raw r1 s) (next_raw r2 s) (λ next. Fewer (coming s))
 next_raw-agrees r1 r2 s h =
@@ -194,6 +195,7 @@ symbol_in-agrees : (x : Raw) (s : Machine) → Agree (symbol_in x s) (symbol_in 
 symbol_in-agrees (raw.Symbol symbol) s = given symbol s (λ x. AsMany s) (record { went = refl; hand = refl })
 symbol_in-agrees raw.Number s = stopped (refused_raw (codes "symbol") raw.Number s) s (λ x. AsMany s) tt
 symbol_in-agrees raw.Text s = stopped (refused_raw (codes "symbol") raw.Text s) s (λ x. AsMany s) tt
+symbol_in-agrees raw.Value s = stopped (refused_raw (codes "symbol") raw.Value s) s (λ x. AsMany s) tt
 symbol_in-agrees raw.EndOfText s = stopped (refused_raw (codes "symbol") raw.EndOfText s) s (λ x. AsMany s) tt
 
 -- from here on: rules may be asked below m, and the front that a case is of weighs no more than the one in hand
@@ -282,53 +284,99 @@ bracketed-agrees r1 r2 m s c h =
     agree-then (bracket-agrees u.front u) (λ closed w a.
     weaker (acted (subscript v w.acts) w) (λ value y e. record { went = omega arith })))
 
-suffix_word-agrees : (r1 r2 : Rules) (parts : List Part) (symbol : ℕ) (w : Word) (m : ℕ) (s : Machine) → 1 ≤ weight s.front → 64 * left s + 1 ≤ m
-    → Below r1 r2 m → Agree (suffix_by r1 parts (front.Word symbol w) s) (suffix_by r2 parts (front.Word symbol w) s) (λ answer. Fewer (left s))
-suffix_word-agrees r1 r2 parts symbol word.LeftBracket m s e c h =
-    agree-then (bracketed-agrees r1 r2 m s (omega arith) h) (λ value t p.
-    part_on-agrees r1 r2 parts (part.Sub value) (left s) m t (omega arith) c h)
-suffix_word-agrees r1 r2 parts symbol w m s e c h = given parts s (λ answer. Fewer (left s)) (record { went = omega arith })
+-- a part used its front
+part_used-agrees : (p : Part) (b : ℕ) (t : Machine) → coming t + 1 ≤ b
+    → Agree (part_used p t) (part_used p t) (λ answer. FewerBy b (used_by_part answer))
+part_used-agrees p b t c = given (Some p) (see front.EndOfText t) (λ answer. FewerBy b (used_by_part answer)) (record { went = c })
 
-suffix_by-agrees : (r1 r2 : Rules) (parts : List Part) (x : Front) (m : ℕ) (s : Machine) → weight x ≤ weight s.front → 64 * left s + 1 ≤ m → Below r1 r2 m
-    → Agree (suffix_by r1 parts x s) (suffix_by r2 parts x s) (λ answer. Fewer (left s))
-suffix_by-agrees r1 r2 parts (front.Tag symbol) m s e c h = part_on-agrees r1 r2 parts (part.Sym symbol) (left s) m s (omega arith) c h
-suffix_by-agrees r1 r2 parts (front.Internal symbol k) m s e c h = part_on-agrees r1 r2 parts (part.Sym symbol) (left s) m s (omega arith) c h
-suffix_by-agrees r1 r2 parts (front.Number n) m s e c h = part_on-agrees r1 r2 parts (part.Sub n) (left s) m s (omega arith) c h
-suffix_by-agrees r1 r2 parts (front.Word symbol w) m s e c h = suffix_word-agrees r1 r2 parts symbol w m s e c h
-suffix_by-agrees r1 r2 parts x m s e c h = given parts s (λ answer. Fewer (left s)) (record { went = omega arith })
+part_word-agrees : (r1 r2 : Rules) (symbol : ℕ) (w : Word) (m : ℕ) (s : Machine) → 1 ≤ weight s.front → 64 * left s + 1 ≤ m → Below r1 r2 m
+    → Agree (part_by r1 (front.Word symbol w) s) (part_by r2 (front.Word symbol w) s) (λ answer. FewerBy (left s) (used_by_part answer))
+part_word-agrees r1 r2 symbol word.LeftBracket m s e c h =
+    agree-then (bracketed-agrees r1 r2 m s (omega arith) h) (λ value t p.
+    part_used-agrees (part.Sub value) (left s) t (omega arith))
+part_word-agrees r1 r2 symbol w m s e c h = given None s (λ answer. FewerBy (left s) (used_by_part answer)) (record { went = omega arith })
+
+part_by-agrees : (r1 r2 : Rules) (x : Front) (m : ℕ) (s : Machine) → weight x ≤ weight s.front → 64 * left s + 1 ≤ m → Below r1 r2 m
+    → Agree (part_by r1 x s) (part_by r2 x s) (λ answer. FewerBy (left s) (used_by_part answer))
+part_by-agrees r1 r2 (front.Tag symbol) m s e c h = part_used-agrees (part.Sym symbol) (left s) s (omega arith)
+part_by-agrees r1 r2 (front.Internal symbol k) m s e c h = part_used-agrees (part.Sym symbol) (left s) s (omega arith)
+part_by-agrees r1 r2 (front.Number n) m s e c h = part_used-agrees (part.Sub n) (left s) s (omega arith)
+part_by-agrees r1 r2 (front.Word symbol w) m s e c h = part_word-agrees r1 r2 symbol w m s e c h
+part_by-agrees r1 r2 x m s e c h = given None s (λ answer. FewerBy (left s) (used_by_part answer)) (record { went = omega arith })
+
+suffix_by-agrees : (r1 r2 : Rules) (parts : List Part) (p : Option Part) (b m : ℕ) (t : Machine) → left t + used_by_part p ≤ b → 64 * b + 1 ≤ m → Below r1 r2 m
+    → Agree (suffix_by r1 parts p t) (suffix_by r2 parts p t) (λ answer. Fewer b)
+suffix_by-agrees r1 r2 parts None b m t q c h = given parts t (λ answer. Fewer b) (record { went = omega arith })
+suffix_by-agrees r1 r2 parts (Some p) b m t q c h = part_on-agrees r1 r2 parts p b m t (omega arith) c h
+
+suffix-agrees : (r1 r2 : Rules) (parts : List Part) (s : Machine) → Below r1 r2 (measure (Suffix parts) s)
+    → Agree (suffix r1 parts s) (suffix r2 parts s) (λ answer. Fewer (left s))
+suffix-agrees r1 r2 parts s h =
+    agree-then (part_by-agrees r1 r2 s.front _ s (omega arith) (omega arith) h) (λ p t q.
+    suffix_by-agrees r1 r2 parts p (left s) _ t q.went (omega arith) h)
+
+name_on-agrees : (r1 r2 : Rules) (symbol root : ℕ) (parts : List Part) (p : Option Part) (b m : ℕ) (t : Machine) → left t + used_by_part p ≤ b → 64 * b + 1 ≤ m
+    → Below r1 r2 m → Agree (name_on r1 symbol root parts p t) (name_on r2 symbol root parts p t) (λ answer. Fewer b)
+name_on-agrees r1 r2 symbol root parts None b m t q c h = given (named.Variable root parts) t (λ answer. Fewer b) (record { went = omega arith })
+name_on-agrees r1 r2 symbol root parts (Some p) b m t q c h =
+    agree-then (room-agrees (length parts) t) (λ room u a.
+    weaker (h.at (NameFrom symbol root (parts ++ p ∷ [])) u (omega arith)) (λ answer w e. record { went = omega arith }))
+
+called_by-agrees : (r1 r2 : Rules) (symbol : ℕ) (parts : List Part) (k : Macro) (l : Level) (m : ℕ) (s : Machine) → 64 * coming s < m → Below r1 r2 m
+    → Agree (called_by r1 symbol parts k l s) (called_by r2 symbol parts k l s) (λ answer. Fewer (coming s))
+called_by-agrees r1 r2 symbol parts k level.Variable m s c h =
+    agree-then (calls k (called_with symbol parts) s) (λ called t p.
+    agree-then (h.at NextFront t (omega arith)) (λ next u q.
+    given named.Called u (λ answer. Fewer (coming s)) (record { went = omega arith })))
+called_by-agrees r1 r2 symbol parts k l m s c h = stopped (not_built (name_of_definition (definition_of l))) s (λ answer. Fewer (coming s)) tt
+
+name_from_by-agrees : (r1 r2 : Rules) (symbol root : ℕ) (parts : List Part) (k : Option Macro) (m : ℕ) (s : Machine) → 64 * coming s + 1 ≤ m → Below r1 r2 m
+    → Agree (name_from_by r1 symbol root parts k s) (name_from_by r2 symbol root parts k s) (λ answer. Fewer (coming s))
+name_from_by-agrees r1 r2 symbol root parts (Some k) m s c h = called_by-agrees r1 r2 symbol parts k k.level m s (omega arith) h
+name_from_by-agrees r1 r2 symbol root parts None m s c h =
+    agree-then (h.at NextFront s (omega arith)) (λ next t p.
+    agree-then (part_by-agrees r1 r2 t.front m t (omega arith) (omega arith) h) (λ part u q.
+    name_on-agrees r1 r2 symbol root parts part (coming s) m u (omega (arith, p.went, q.went)) c h))
 
 variable_name-agrees : (r1 r2 : Rules) (symbol : ℕ) (s : Machine) → Below r1 r2 (measure (VariableName symbol) s)
     → Agree (variable_name r1 symbol s) (variable_name r2 symbol s) (λ answer. Fewer (coming s))
 variable_name-agrees r1 r2 symbol s h =
     agree-then (acted (root_of symbol s.acts) s) (λ root t a.
-    agree-then (h.at NextFront t (omega arith)) (λ next u p.
-    agree-then (h.at (Suffix []) u (omega arith)) (λ parts w q.
-    agree-then (acted (no_call root parts w.acts) w) (λ called y e.
-    given (root, parts) y (λ answer. Fewer (coming s)) (record { went = omega arith })))))
+    weaker (h.at (NameFrom symbol root []) t (omega arith)) (λ name u p. record { went = omega arith }))
 
-variable-agrees : (r1 r2 : Rules) (symbol : ℕ) (m : ℕ) (s : Machine) → 64 * coming s + 2 < m → Below r1 r2 m
+variable_named-agrees : (symbol : ℕ) (name : Named) (s : Machine)
+    → Agree (variable_named symbol name s) (variable_named symbol name s) (λ answer. Fewer (left s))
+variable_named-agrees symbol (named.Variable root parts) s =
+    agree-then (acted (read symbol root parts s.acts) s) (λ v t e. given (Some v) t (λ answer. Fewer (left s)) (record { went = omega arith }))
+variable_named-agrees symbol named.Called s = given None s (λ answer. Fewer (left s)) (record { went = omega arith })
+
+begun_anew-agrees : (r1 r2 : Rules) (v : Option Value) (m : ℕ) (s : Machine) → 64 * left s + 3 < m → Below r1 r2 m
+    → Agree (or_begun_anew r1 v s) (or_begun_anew r2 v s) (λ answer. Fewer (left s))
+begun_anew-agrees r1 r2 (Some v) m s c h = given v s (λ answer. Fewer (left s)) (record { went = omega arith })
+begun_anew-agrees r1 r2 None m s c h = h.at PrimaryInside s (omega arith)
+
+variable-agrees : (r1 r2 : Rules) (symbol : ℕ) (m : ℕ) (s : Machine) → 64 * coming s + 3 < m → Below r1 r2 m
     → Agree (variable r1 symbol s) (variable r2 symbol s) (λ answer. Fewer (coming s))
 variable-agrees r1 r2 symbol m s c h =
-    agree-then (h.at (VariableName symbol) s (omega arith)) (λ name t p.
-    weaker (acted (read symbol name.0 name.1 t.acts) t) (λ v u e. record { went = omega arith }))
+    agree-then (agree-then (h.at (VariableName symbol) s (omega arith)) (λ name t p.
+    weaker (variable_named-agrees symbol name t) (λ v u e. record { went = omega (arith, p.went, e.went) }))) (λ v t p.
+    weaker (begun_anew-agrees r1 r2 v m t (omega (arith, p.went)) h) (λ answer u q. record { went = omega (arith, p.went, q.went) }))
 
-closed_if-agrees : (r1 r2 : Rules) (ok : Bool) (pair : Delimiters) (v : Value) (m : ℕ) (s : Machine) → 64 * left s < m → Below r1 r2 m
-    → Agree (closed_if r1 ok pair v s) (closed_if r2 ok pair v s) (λ answer. Fewer (left s))
-closed_if-agrees r1 r2 true pair v m s c h =
-    agree-then (h.at NextFront s (omega arith)) (λ next t q.
-    given v t (λ answer. Fewer (left s)) (record { went = omega arith }))
-closed_if-agrees r1 r2 false pair v m s c h = stopped (refused_front (symbol_name s.acts pair.right) s) s (λ answer. Fewer (left s)) tt
+closed_if-agrees : (ok : Bool) (pair : Delimiters) (s : Machine) → Agree (closed_if ok pair s) (closed_if ok pair s) (λ answer. AsMany s)
+closed_if-agrees true pair s = given tt s (λ answer. AsMany s) (record { went = refl; hand = refl })
+closed_if-agrees false pair s = stopped (refused_front (symbol_name s.acts pair.right) s) s (λ answer. AsMany s) tt
 
-closed_by-agrees : (r1 r2 : Rules) (pair : Delimiters) (v : Value) (x : Front) (m : ℕ) (s : Machine) → 64 * left s < m → Below r1 r2 m
-    → Agree (closed_by r1 pair v x s) (closed_by r2 pair v x s) (λ answer. Fewer (left s))
-closed_by-agrees r1 r2 pair v (front.Right symbol other) m s c h = closed_if-agrees r1 r2 (are_pair pair other) pair v m s c h
-closed_by-agrees r1 r2 pair v x m s c h = stopped (refused_front (symbol_name s.acts pair.right) s) s (λ answer. Fewer (left s)) tt
+closed_by-agrees : (pair : Delimiters) (x : Front) (s : Machine) → Agree (closed_by pair x s) (closed_by pair x s) (λ answer. AsMany s)
+closed_by-agrees pair (front.Right symbol other) s = closed_if-agrees (are_pair pair other) pair s
+closed_by-agrees pair x s = stopped (refused_front (symbol_name s.acts pair.right) s) s (λ answer. AsMany s) tt
 
 parenthesis-agrees : (r1 r2 : Rules) (pair : Delimiters) (m : ℕ) (s : Machine) → 64 * coming s + 9 < m → Below r1 r2 m
     → Agree (parenthesis r1 pair s) (parenthesis r2 pair s) (λ answer. Fewer (coming s))
 parenthesis-agrees r1 r2 pair m s c h =
     agree-then (next_expression-agrees r1 r2 m s c h) (λ v u q.
-    weaker (closed_by-agrees r1 r2 pair v u.front m u (omega arith) h) (λ answer w a. record { went = omega arith }))
+    agree-then (closed_by-agrees pair u.front u) (λ end t e.
+    agree-then (h.at NextFront t (omega arith)) (λ next w a.
+    given v w (λ answer. Fewer (coming s)) (record { went = omega arith }))))
 
 group-agrees : (r1 r2 : Rules) (s : Machine) → Below r1 r2 (measure Group s) → Agree (group r1 s) (group r2 s) (λ answer. Fewer (coming s))
 group-agrees r1 r2 s h =
@@ -359,6 +407,13 @@ string_primary-agrees r1 r2 m s c h =
     agree-then (h.at NextFront read (omega arith)) (λ next t p.
     weaker (acted (string_token s.string t.acts) t) (λ v u e. record { went = omega arith }))
 
+value_primary-agrees : (r1 r2 : Rules) (m : ℕ) (s : Machine) → 64 * coming s < m → Below r1 r2 m
+    → Agree (value_primary r1 s) (value_primary r2 s) (λ answer. Fewer (coming s))
+value_primary-agrees r1 r2 m s c h =
+    let read : Machine = record s { value = value.Vacuous } in
+    agree-then (h.at NextFront read (omega arith)) (λ next t p.
+    given s.value t (λ answer. Fewer (coming s)) (record { went = omega arith }))
+
 applied-agrees : (r1 r2 : Rules) (op : UnaryOperator) (m : ℕ) (s : Machine) → 64 * coming s + 4 < m → Below r1 r2 m
     → Agree (applied r1 op s) (applied r2 op s) (λ answer. Fewer (coming s))
 applied-agrees r1 r2 op m s c h =
@@ -380,6 +435,7 @@ primary_by-agrees : (r1 r2 : Rules) (x : Front) (m : ℕ) (s : Machine) → weig
     → Agree (primary_by r1 x s) (primary_by r2 x s) (λ answer. Fewer (left s))
 primary_by-agrees r1 r2 (front.Number n) m s e c h = weaker (number-agrees r1 r2 n m s (omega arith) h) (λ v t p. record { went = omega arith })
 primary_by-agrees r1 r2 front.Text m s e c h = weaker (string_primary-agrees r1 r2 m s (omega arith) h) (λ v t p. record { went = omega arith })
+primary_by-agrees r1 r2 front.Capsule m s e c h = weaker (value_primary-agrees r1 r2 m s (omega arith) h) (λ v t p. record { went = omega arith })
 primary_by-agrees r1 r2 (front.Word symbol w) m s e c h = primary_word-agrees r1 r2 symbol w m s e c h
 primary_by-agrees r1 r2 (front.Tag symbol) m s e c h = weaker (variable-agrees r1 r2 symbol m s (omega arith) h) (λ v t p. record { went = omega arith })
 primary_by-agrees r1 r2 (front.Internal symbol k) m s e c h = weaker (internal-agrees r1 r2 k m s (omega arith) h) (λ v t p. record { went = omega arith })
@@ -419,11 +475,17 @@ used_small : (x : Side) → used_by_side x ≤ 1
 used_small (side.Target t) = omega arith
 used_small (side.Value v) = omega arith
 
-leading_by-agrees : (r1 r2 : Rules) (x : Front) (m : ℕ) (s : Machine) → weight x ≤ weight s.front → 64 * left s + 3 < m → Below r1 r2 m
+leading_named-agrees : (r1 r2 : Rules) (symbol : ℕ) (name : Named) (m : ℕ) (s : Machine) → 64 * left s + 4 < m → Below r1 r2 m
+    → Agree (leading_named r1 symbol name s) (leading_named r2 symbol name s) (λ answer. FewerBy (left s + 1) (used_by_side answer))
+leading_named-agrees r1 r2 symbol (named.Variable root parts) m s c h =
+    weaker (variable_by-agrees symbol root parts s.front s) (λ answer u q. record { went = omega (arith, q.went, used_small answer) })
+leading_named-agrees r1 r2 symbol named.Called m s c h = weaker (h.at LeadingInside s (omega arith)) (λ answer u q. record { went = omega (arith, q.went) })
+
+leading_by-agrees : (r1 r2 : Rules) (x : Front) (m : ℕ) (s : Machine) → weight x ≤ weight s.front → 64 * left s + 4 ≤ m → Below r1 r2 m
     → Agree (leading_by r1 x s) (leading_by r2 x s) (λ answer. FewerBy (left s) (used_by_side answer))
 leading_by-agrees r1 r2 (front.Tag symbol) m s e c h =
     agree-then (h.at (VariableName symbol) s (omega arith)) (λ name t p.
-    weaker (variable_by-agrees symbol name.0 name.1 t.front t) (λ answer u q. record { went = omega (arith, used_small answer) }))
+    weaker (leading_named-agrees r1 r2 symbol name m t (omega (arith, p.went)) h) (λ answer u q. record { went = omega (arith, p.went, q.went) }))
 leading_by-agrees r1 r2 (front.Internal symbol k) m s e c h =
     agree-then (h.at NextFront s (omega arith)) (λ next t p.
     weaker (internal_by-agrees k t.front t) (λ answer u q. record { went = omega (arith, used_small answer) }))
@@ -435,8 +497,8 @@ leading-agrees : (r1 r2 : Rules) (s : Machine) → Below r1 r2 (measure Leading 
     → Agree (leading r1 s) (leading r2 s) (λ answer. FewerBy (left s) (used_by_side answer))
 leading-agrees r1 r2 s h =
     agree-then (entered s) (λ one t p.
-    agree-then (leading_by-agrees r1 r2 t.front _ t (omega arith) (omega arith) h) (λ answer u q.
-    given answer (leave u) (λ answer. FewerBy (left s) (used_by_side answer)) (record { went = omega arith })))
+    agree-then (h.at LeadingInside t (omega arith)) (λ answer u q.
+    given answer (leave u) (λ answer. FewerBy (left s) (used_by_side answer)) (record { went = omega (arith, p.went, q.went) })))
 
 -- SECONDARIES, TERTIARIES, EXPRESSIONS
 
@@ -444,6 +506,7 @@ leading-agrees r1 r2 s h =
 secondary_weight : (x : Front) (op : SecondaryOperator) → secondary_in x ≡ Some op → 1 ≤ weight x
 secondary_weight (front.Number n) op e = omega arith
 secondary_weight front.Text op e = omega arith
+secondary_weight front.Capsule op e = omega arith
 secondary_weight (front.Word symbol w) op e = omega arith
 secondary_weight (front.Tag symbol) op e = omega arith
 secondary_weight (front.Internal symbol k) op e = omega arith
@@ -454,6 +517,7 @@ secondary_weight front.EndOfText op e = cc
 tertiary_weight : (x : Front) (op : TertiaryOperator) → tertiary_in x ≡ Some op → 1 ≤ weight x
 tertiary_weight (front.Number n) op e = omega arith
 tertiary_weight front.Text op e = omega arith
+tertiary_weight front.Capsule op e = omega arith
 tertiary_weight (front.Word symbol w) op e = omega arith
 tertiary_weight (front.Tag symbol) op e = omega arith
 tertiary_weight (front.Internal symbol k) op e = omega arith
@@ -618,6 +682,7 @@ equals_in-agrees : (x : Raw) (s : Machine) → Agree (equals_in x s) (equals_in 
 equals_in-agrees (raw.Symbol symbol) s = equals_by-agrees (is_equals (symbol_meaning s.acts symbol)) (raw.Symbol symbol) s
 equals_in-agrees raw.EndOfText s = stopped (refused_raw (codes "symbol") raw.EndOfText s) s (λ y. AsMany s) tt
 equals_in-agrees raw.Number s = stopped (refused_raw (codes "=") raw.Number s) s (λ y. AsMany s) tt
+equals_in-agrees raw.Value s = stopped (refused_raw (codes "=") raw.Value s) s (λ y. AsMany s) tt
 equals_in-agrees raw.Text s = stopped (refused_raw (codes "=") raw.Text s) s (λ y. AsMany s) tt
 
 raw_equals-agrees : (r1 r2 : Rules) (m : ℕ) (s : Machine) → 64 * coming s < m → Below r1 r2 m
@@ -633,7 +698,7 @@ let_equal-agrees r1 r2 m s c h =
     agree-then (raw_equals-agrees r1 r2 _ t (omega arith) h) (λ sign u q.
     agree-then (raw_symbol-agrees r1 r2 _ u (omega arith) h) (λ other w a.
     let done : Machine = record w { acts = let_symbol symbol other w.acts } in
-    weaker (h.at NextFront done (omega arith)) (λ next y e. record { went = omega arith }))))
+    given tt done (λ answer. Fewer (coming s)) (record { went = omega arith }))))
 
 delimiter_pair-agrees : (r1 r2 : Rules) (m : ℕ) (s : Machine) → 64 * coming s < m → Below r1 r2 m
     → Agree (delimiter_pair r1 s) (delimiter_pair r2 s) (λ answer. Fewer (coming s))
@@ -641,7 +706,13 @@ delimiter_pair-agrees r1 r2 m s c h =
     agree-then (raw_symbol-agrees r1 r2 _ s (omega arith) h) (λ begin t p.
     agree-then (raw_symbol-agrees r1 r2 _ t (omega arith) h) (λ end u q.
     let done : Machine = record u { acts = delimiters begin end u.acts } in
-    weaker (h.at NextFront done (omega arith)) (λ next w e. record { went = omega arith })))
+    given tt done (λ answer. Fewer (coming s)) (record { went = omega arith })))
+
+-- the next front, behind what used the fronts before it
+then_next-agrees : (r1 r2 : Rules) (a1 a2 : Rule (Unit {0})) (m : ℕ) (s : Machine) → 64 * coming s < m → Below r1 r2 m
+    → Agree (a1 s) (a2 s) (λ done. Fewer (coming s)) → Agree (then_next r1 a1 s) (then_next r2 a2 s) (λ answer. Fewer (coming s))
+then_next-agrees r1 r2 a1 a2 m s c h a =
+    agree-then a (λ done t p. weaker (h.at NextFront t (omega (arith, p.went))) (λ next u q. record { went = omega (arith, p.went, q.went) }))
 
 internal_in-agrees : (x : Front) (s : Machine) → Agree (internal_in x s) (internal_in x s) (λ k. AsMany s)
 internal_in-agrees (front.Internal symbol k) s = given k s (λ y. AsMany s) (record { went = refl; hand = refl })
@@ -682,8 +753,8 @@ command-agrees : (r1 r2 : Rules) (c : Command) (s : Machine) → Below r1 r2 (me
 command-agrees r1 r2 command.Show s h = h.at ShowList s (omega arith)
 command-agrees r1 r2 (command.Symbols k) s h = h.at (SymbolList k) s (omega arith)
 command-agrees r1 r2 command.Interim s h = interim-agrees r1 r2 _ s (omega arith) h
-command-agrees r1 r2 command.Let s h = let_equal-agrees r1 r2 _ s (omega arith) h
-command-agrees r1 r2 command.Delimiters s h = delimiter_pair-agrees r1 r2 _ s (omega arith) h
+command-agrees r1 r2 command.Let s h = then_next-agrees r1 r2 (let_equal r1) (let_equal r2) _ s (omega arith) h (let_equal-agrees r1 r2 _ s (omega arith) h)
+command-agrees r1 r2 command.Delimiters s h = then_next-agrees r1 r2 (delimiter_pair r1) (delimiter_pair r2) _ s (omega arith) h (delimiter_pair-agrees r1 r2 _ s (omega arith) h)
 command-agrees r1 r2 (command.Speech speech) s h = spoken-agrees r1 r2 speech _ s (omega arith) h
 command-agrees r1 r2 (command.Mode m) s h = h.at NextFront s (omega arith)
 command-agrees r1 r2 (command.Type k) s h = h.at (TypeList k) s (omega arith)
@@ -719,13 +790,11 @@ read_on-agrees (x ∷ text) r s =
       | false ↦ weaker (read_on-agrees text now u) (λ last v q. record { went = omega (arith, later.went, q.went); hand = q.hand ∙ later.hand })
     ]))
 
-definition-agrees : (r1 r2 : Rules) (w : Definition) (m : ℕ) (s : Machine) → 64 * coming s < m → Below r1 r2 m
-    → Agree (definition r1 w s) (definition r2 w s) (λ answer. Fewer (coming s))
-definition-agrees r1 r2 w m s c h =
+definition-agrees : (w : Definition) (s : Machine) → Agree (definition w s) (definition w s) (λ answer. Fewer (coming s))
+definition-agrees w s =
     let used : Machine = see front.EndOfText s in
-    agree-then (read_on-agrees used.text (start w group_symbols) used) (λ r t p.
-    agree-then (acted (define (defined r) t.acts) t) (λ done u e.
-    weaker (h.at NextFront u (omega (arith, p.went, e.went))) (λ next v q. record { went = omega (arith, p.went, e.went, q.went) })))
+    agree-then (read_on-agrees used.expander.text (start w group_symbols) used) (λ r t p.
+    weaker (acted (define (defined r) t.acts) t) (λ done u e. record { went = omega (arith, p.went, e.went) }))
 
 -- STATEMENTS
 
@@ -743,7 +812,7 @@ statement_word-agrees r1 r2 symbol (word.Command k) m s e c h =
     agree-then (h.at (CommandRest k) s (omega arith)) (λ done t p.
     given value.Vacuous t (λ answer. Fewer (left s)) (record { went = omega arith }))
 statement_word-agrees r1 r2 symbol (word.Definition w) m s e c h =
-    agree-then (definition-agrees r1 r2 w m s (omega arith) h) (λ done t p.
+    agree-then (then_next-agrees r1 r2 (definition w) (definition w) m s (omega arith) h (definition-agrees w s)) (λ done t p.
     given value.Vacuous t (λ answer. Fewer (left s)) (record { went = omega arith }))
 statement_word-agrees r1 r2 symbol w m s e c h = chain_if-agrees r1 r2 (begins_primary (front.Word symbol w)) m s c h
 
@@ -827,13 +896,16 @@ pub case-agrees : (r1 r2 : Rules) (what : What) (s : Machine) → Below r1 r2 (m
 unfolding case
 case-agrees r1 r2 NextFront s h = next_front-agrees r1 r2 s (record { at = λ w t below. h.at w t (omega arith) })
 case-agrees r1 r2 NextRaw s h = next_raw-agrees r1 r2 s (record { at = λ w t below. h.at w t (omega arith) })
+case-agrees r1 r2 (Operand w) s h = operand-agrees r1 r2 w s h
 case-agrees r1 r2 (NumberThen n) s h = then_by-agrees r1 r2 n s.front _ s (omega arith) (omega arith) h
 case-agrees r1 r2 (Factor v) s h = factor_by-agrees r1 r2 v (begins_factor s.front) _ s (omega arith) h
 case-agrees r1 r2 (VariableName symbol) s h = variable_name-agrees r1 r2 symbol s h
-case-agrees r1 r2 (Suffix parts) s h = suffix_by-agrees r1 r2 parts s.front _ s (omega arith) (omega arith) h
+case-agrees r1 r2 (NameFrom symbol root parts) s h = name_from_by-agrees r1 r2 symbol root parts (macro_named s.acts root parts) _ s (omega arith) h
+case-agrees r1 r2 (Suffix parts) s h = suffix-agrees r1 r2 parts s h
 case-agrees r1 r2 Group s h = group-agrees r1 r2 s h
 case-agrees r1 r2 PrimaryInside s h = primary_by-agrees r1 r2 s.front _ s (omega arith) (omega arith) h
 case-agrees r1 r2 Primary s h = primary-agrees r1 r2 s h
+case-agrees r1 r2 LeadingInside s h = leading_by-agrees r1 r2 s.front _ s (omega arith) (omega arith) h
 case-agrees r1 r2 Leading s h = leading-agrees r1 r2 s h
 case-agrees r1 r2 (SecondaryRest v) s h = secondary_by-agrees r1 r2 v (secondary_in s.front) _ s refl (omega arith) h
 case-agrees r1 r2 Secondary s h = secondary-agrees r1 r2 s h

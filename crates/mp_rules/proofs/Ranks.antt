@@ -4,7 +4,7 @@ use Rattle.mp_rules.specs.Machine.{Machine}
 use Rattle.mp_rules.specs.Promises.{from}
 use Rattle.mp_rules.specs.Meaning.{depth}
 use Rattle.mp_rules.specs.declared.chain_side.ChainSide.TheVariants as side
-use Rattle.mp_rules.specs.Rules.{What, NextFront, NextRaw, NumberThen, Factor, VariableName, Suffix, Group, PrimaryInside, Primary, Leading, SecondaryRest, Secondary, TertiaryRest, ExpressionFrom, Expression, ChainSide, ChainRest, Chain, ShowList, SymbolList, DeclaredName, TypeList, CommandRest, Statement, GroupStatements, Statements}
+use Rattle.mp_rules.specs.Rules.{What, NextFront, NextRaw, Operand, NumberThen, Factor, VariableName, NameFrom, Suffix, Group, PrimaryInside, Primary, LeadingInside, Leading, SecondaryRest, Secondary, TertiaryRest, ExpressionFrom, Expression, ChainSide, ChainRest, Chain, ShowList, SymbolList, DeclaredName, TypeList, CommandRest, Statement, GroupStatements, Statements}
 
 -- there is room for 64
 abbrev pub rank : What → ℕ
@@ -12,10 +12,12 @@ rank NextFront = 0
 rank NextRaw = 0
 rank (Suffix parts) = 1
 rank (DeclaredName parts) = 1
+rank (NameFrom symbol root parts) = 1
 rank (VariableName symbol) = 2
 rank PrimaryInside = 3
 rank Primary = 4
-rank Leading = 4
+rank LeadingInside = 4
+rank Leading = 5
 rank (Factor v) = 5
 rank (NumberThen n) = 6
 rank (SecondaryRest v) = 5
@@ -26,6 +28,7 @@ rank Expression = 9
 rank ChainSide = 9
 rank (ChainRest before last) = 10
 rank Chain = 11
+rank (Operand w) = 10
 rank ShowList = 10
 rank (SymbolList c) = 1
 rank (TypeList kind) = 2
@@ -44,11 +47,14 @@ deep NextFront s = omega arith
 deep NextRaw s = omega arith
 deep (NumberThen n) s = omega arith
 deep (Factor v) s = omega arith
+deep (Operand w) s = omega arith
 deep (VariableName symbol) s = omega arith
+deep (NameFrom symbol root parts) s = omega arith
 deep (Suffix parts) s = omega arith
 deep Group s = omega arith
 deep PrimaryInside s = omega arith
 deep Primary s = omega arith
+deep LeadingInside s = omega arith
 deep Leading s = omega arith
 deep (SecondaryRest v) s = omega arith
 deep Secondary s = omega arith

@@ -26,11 +26,11 @@ spent_whole : (s : Machine) → IsSpentStop (whole the s)
 spent_whole s = spent_then (the NextFront s) (λ first. the Statements) (spent_after (the NextFront s) _ (the_went NextFront s)) (λ first t. spent_after (the Statements t) _ (the_went Statements t))
 
 -- a function that reads the whole: where it is out of steps, and whether it lacks a file
-pub run_spent : (s t : Machine) (result : Result (Unit {0}) Stop) → Yields result t (whole the s) → t.steps ≤ t.budget → result ≡ Err stop.OutOfSteps
-    → t.steps ≡ t.budget
+pub run_spent : (s t : Machine) (result : Result (Unit {0}) Stop) → Yields result t (whole the s) → t.expander.steps ≤ t.expander.budget → result ≡ Err stop.OutOfSteps
+    → t.expander.steps ≡ t.expander.budget
 run_spent s t result gives within is =
     let stops : whole the s ≡ Err (OutOfSteps, t) = subst (λ (r : Result (Unit {0}) Stop). Yields r t (whole the s)) is gives (λ e. cc) in
-    let spent : t.budget ≤ t.steps = subst (λ (o : Outcome (Unit {0})). IsSpentStop o) stops (spent_whole s) in
+    let spent : t.expander.budget ≤ t.expander.steps = subst (λ (o : Outcome (Unit {0})). IsSpentStop o) stops (spent_whole s) in
     omega arith
 
 pub run_read : (s t : Machine) (result : Result (Unit {0}) Stop) → Yields result t (whole the s) → (name : List ℕ) → result ≡ Err (stop.Unread name) → ⊥

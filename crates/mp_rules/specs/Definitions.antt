@@ -10,8 +10,9 @@ use Rattle.mp_values.specs.declared.turn.Pending.TheVariants as pending
 use Rattle.mp_macro.specs.Headings.{Reading}
 use Rattle.mp_macro.specs.Definitions.{read, is_whole}
 use Rattle.mp_rules.specs.Machine.{Machine, Outcome, Rule}
-use Rattle.mp_rules.specs.Steps.{take_first, see}
-use Rattle.mp_rules.specs.declared.front.Front.TheVariants as front
+use Rattle.mp_expand.specs.Steps.{take_first}
+use Rattle.mp_rules.specs.Steps.{expanding, see}
+use Rattle.mp_expand.specs.declared.front.Front.TheVariants as front
 
 abbrev pub read_in : Machine → act.Outcome Reading (Unit {0}) → Outcome Reading
 read_in s (Ok done) = Ok (done.1, s)
@@ -38,13 +39,13 @@ unless_whole false r more = more
 -- the same of all that is taken, of a text of which this much is left
 unfoldable pub read_on : List Pending → Reading → Rule Reading
 read_on [] r = do
-  taken ← take_first
+  taken ← expanding take_first
   taken_read r taken
 read_on (x ∷ text) r = do
-  taken ← take_first
+  taken ← expanding take_first
   now ← taken_read r taken
   unless_whole (is_whole now) now (read_on text now)
 
 -- while an item is read as it stands, the front in hand is the end of the text
 abbrev pub definition_read : Reading → Rule Reading
-definition_read r s = read_on s.text r (see front.EndOfText s)
+definition_read r s = read_on s.expander.text r (see front.EndOfText s)

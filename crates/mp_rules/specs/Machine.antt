@@ -1,33 +1,28 @@
 -- What a rule reads and changes.
 use Rattle.std.specs.Prelude.{ℕ, List, Option, Some, None, ◌-◌, ◌+◌}
 use Rattle.mp_files.specs.declared.outside.Kept.{Kept}
-use Rattle.mp_report.specs.declared.place.Place.{Place}
 use Rattle.mp_values.specs.Outcome.{OutcomeBy, RuleBy, Cause}
-use Rattle.mp_values.specs.declared.turn.Pending.{Pending}
+use Rattle.mp_values.specs.declared.value.Value.{Value}
 use Rattle.mp_acts.specs.Counts.{Counts}
 use Rattle.mp_acts.specs.State.{State, counts}
-use Rattle.mp_rules.specs.declared.front.Front.{Front}
-use Rattle.mp_rules.specs.declared.front.Front.TheVariants as front
+use Rattle.mp_expand.specs.Expansion.{Expansion}
+use Rattle.mp_expand.specs.declared.front.Front.{Front}
+use Rattle.mp_expand.specs.declared.front.Front.TheVariants as front
 
 pub record Machine : Type 0 where
   -- the sources that the run was given, and the names that it asked for, each once, in their order
   pub sources : List Kept
   pub asked : List (List ℕ)
-  -- the text that is left
-  pub text : List Pending
+  -- the text that is left, with the calls of macros that are not yet whole
+  pub expander : Expansion
   -- the front in hand: the first of the phrase that is to be read, or the one behind what was read
   pub front : Front
   -- a front that was got already: the one behind a slash in hand
   pub held : Option Front
   -- the bytes of the front in hand, where that is a string
   pub string : List ℕ
-  -- the last line end that was taken
-  pub last : Place
-  -- the items that were taken, of so many that may be
-  pub steps : ℕ
-  pub budget : ℕ
-  -- the primaries that are being read
-  pub nesting : ℕ
+  -- the value that it stands for, where it is one that was evaluated
+  pub value : Value
   -- what statements act on
   pub acts : State
 
@@ -49,7 +44,7 @@ held_weight (Some x) = weight x
 
 -- how many fronts may still be got
 abbrev pub coming : Machine → ℕ
-coming s = (s.budget - s.steps) + held_weight s.held
+coming s = (s.expander.budget - s.expander.steps) + held_weight s.held
 
 -- how many may still be used: with the one in hand
 abbrev pub left : Machine → ℕ

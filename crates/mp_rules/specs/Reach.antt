@@ -6,8 +6,15 @@ use Rattle.mp_values.specs.declared.turn.Pending.{Pending}
 use Rattle.mp_values.specs.declared.turn.Pending.TheVariants.{Item, Turn}
 use Rattle.mp_acts.specs.Counts.{Counts, nothing, most, greatest, IsWithin}
 use Rattle.mp_acts.specs.Reach.{reach, reach_of_item, reach_of_pair, one_symbol, one_internal}
-use Rattle.mp_rules.specs.declared.front.Front.{Front}
-use Rattle.mp_rules.specs.declared.front.Front.TheVariants as front
+use Rattle.mp_values.specs.declared.value.Value.{Value}
+use Rattle.mp_expand.specs.Expansion.{Expansion}
+use Rattle.mp_expand.specs.declared.front.Front.{Front}
+use Rattle.mp_expand.specs.declared.front.Front.TheVariants as front
+use Rattle.mp_expand.specs.declared.request.Need.{Need}
+use Rattle.mp_expand.specs.declared.request.Need.TheVariants as need
+use Rattle.mp_expand.specs.declared.request.Request.{Request}
+use Rattle.mp_expand.specs.declared.step.Step.{Step}
+use Rattle.mp_expand.specs.declared.step.Step.TheVariants as step
 use Rattle.mp_rules.specs.declared.front.Raw.{Raw}
 use Rattle.mp_rules.specs.declared.front.Raw.TheVariants as raw
 use Rattle.mp_rules.specs.declared.front.Taken.{Taken}
@@ -32,23 +39,22 @@ abbrev pub reach_of_first : Option Pending → Counts
 reach_of_first None = nothing
 reach_of_first (Some x) = reach_of_pending x
 
-abbrev pub reach_of_taken : Taken → Counts
-reach_of_taken (taken.Symbol symbol) = one_symbol symbol
-reach_of_taken (taken.Number n) = nothing
-reach_of_taken (taken.Text bytes) = nothing
-reach_of_taken (taken.Bad cause) = nothing
-reach_of_taken taken.Passed = nothing
-reach_of_taken taken.Nothing = nothing
-
 abbrev pub reach_of_raw : Raw → Counts
 reach_of_raw (raw.Symbol symbol) = one_symbol symbol
 reach_of_raw raw.Number = nothing
 reach_of_raw raw.Text = nothing
+reach_of_raw raw.Value = nothing
 reach_of_raw raw.EndOfText = nothing
+
+abbrev pub reach_of_taken : Taken → Counts
+reach_of_taken (taken.Raw x) = reach_of_raw x
+reach_of_taken (taken.Bad cause) = nothing
+reach_of_taken taken.Passed = nothing
 
 abbrev pub reach_of_front : Front → Counts
 reach_of_front (front.Number n) = nothing
 reach_of_front front.Text = nothing
+reach_of_front front.Capsule = nothing
 reach_of_front (front.Word symbol w) = one_symbol symbol
 reach_of_front (front.Tag symbol) = one_symbol symbol
 reach_of_front (front.Internal symbol k) = most (one_symbol symbol) (one_internal k)
@@ -60,8 +66,32 @@ abbrev pub reach_of_held : Option Front → Counts
 reach_of_held None = nothing
 reach_of_held (Some x) = reach_of_front x
 
+-- the delimiters of a call
+abbrev pub reach_of_need : Need → Counts
+reach_of_need (need.Opening kind) = nothing
+reach_of_need (need.Answer pair) = reach_of_pair pair
+reach_of_need (need.Text pair depth) = reach_of_pair pair
+
+-- a call: its body, its arguments, what was read of a text, and its delimiters
+abbrev pub reach_of_request : Request → Counts
+reach_of_request r =
+    most (most (greatest reach_of_item r.called.body) (greatest (greatest reach_of_item) r.got)) (most (greatest reach_of_item r.text) (reach_of_need r.need))
+
+-- the text that is left, and the calls that are not yet whole
+abbrev pub reach_of_expansion : Expansion → Counts
+reach_of_expansion e = most (reach_of_text e.text) (greatest reach_of_request e.requests)
+
+-- what comes of one more item
+abbrev pub reach_of_step : Step → Counts
+reach_of_step step.More = nothing
+reach_of_step (step.Front x) = reach_of_front x
+reach_of_step (step.Text bytes) = nothing
+reach_of_step (step.Capsule v) = reach v
+reach_of_step (step.Want w) = nothing
+
 -- what is to be read speaks of what there is
-pub record IsReadable (text : List Pending) (front : Front) (held : Option Front) (there : Counts) : Type 0 where
-  pub within_text : IsWithin (reach_of_text text) there
+pub record IsReadable (expander : Expansion) (front : Front) (held : Option Front) (value : Value) (there : Counts) : Type 0 where
+  pub within_text : IsWithin (reach_of_expansion expander) there
   pub within_front : IsWithin (reach_of_front front) there
   pub within_held : IsWithin (reach_of_held held) there
+  pub within_value : IsWithin (reach value) there

@@ -1,12 +1,17 @@
 -- The meaning of a text: one function, by cases on what is asked.
 -- The grammar is that of Hobby, A User's Manual for MetaPost, as far as it is built, and of Knuth, The METAFONTbook,
 -- chapters 8, 25 and 26; the refusals are this project's own.
-use Rattle.std.specs.Prelude.{ℕ, ℤ, Bool, true, false, List, [], ◌∷◌, ◌++◌, Option, Some, None, length, nat_eq, nat_lt, ◌&&◌, Ok, codes}
+use Rattle.std.specs.Prelude.{ℕ, ℤ, Bool, true, false, List, [], ◌∷◌, ◌++◌, Option, Some, None, length, nat_lt, map, take, drop, Ok, codes}
 use Rattle.mp_report.specs.declared.error.Cap.TheVariants as cap
 use Rattle.mp_report.specs.declared.error.SourceError.TheVariants as error
 use Rattle.mp_values.specs.Outcome.{◌>>=◌, give, halt, lift, change, Refused}
-use Rattle.mp_values.specs.Refusals.{bad_token}
-use Rattle.mp_values.specs.Words.{unary_of}
+use Rattle.mp_values.specs.Refusals.{bad_token, not_built}
+use Rattle.mp_values.specs.Words.{unary_of, name_of_definition, definition_of}
+use Rattle.mp_values.specs.declared.item.Item.{Item}
+use Rattle.mp_values.specs.declared.item.Item.TheVariants as item
+use Rattle.mp_values.specs.declared.macros.Level.{Level}
+use Rattle.mp_values.specs.declared.macros.Level.TheVariants as level
+use Rattle.mp_values.specs.declared.macros.Macro.{Macro}
 use Rattle.mp_values.specs.declared.meaning.Delimiters.{Delimiters}
 use Rattle.mp_values.specs.declared.meaning.Meaning.{Meaning}
 use Rattle.mp_values.specs.declared.meaning.Meaning.TheVariants as meaning
@@ -24,6 +29,7 @@ use Rattle.mp_values.specs.declared.word.SymbolCommand.{SymbolCommand}
 use Rattle.mp_values.specs.declared.word.Tertiary.{Tertiary as TertiaryOperator}
 use Rattle.mp_values.specs.declared.word.Unary.{Unary as UnaryOperator}
 use Rattle.mp_values.specs.declared.word.Word.TheVariants as word
+use Rattle.mp_vartree.specs.declared.names.TheConstants.{PART_LIMIT}
 use Rattle.mp_vartree.specs.declared.names.Part.{Part}
 use Rattle.mp_vartree.specs.declared.names.Part.TheVariants as part
 use Rattle.mp_vartree.specs.declared.names.Shape.{Shape}
@@ -33,37 +39,51 @@ use Rattle.mp_acts.specs.State.{symbol_name, symbol_meaning}
 use Rattle.mp_acts.specs.Arithmetic.{known_number, fraction}
 use Rattle.mp_acts.specs.Arithmetic as act
 use Rattle.mp_acts.specs.Suffixes.{suffix_string, string_token, subscript}
-use Rattle.mp_acts.specs.Variables.{root_of, no_call, read, declare, define}
+use Rattle.mp_acts.specs.Variables.{root_of, macro_named, read, declare, define}
 use Rattle.mp_acts.specs.Definitions.{group_symbols}
 use Rattle.mp_acts.specs.Lines.{show, speak}
 use Rattle.mp_acts.specs.Groups.{begin_group, end_group, with_each, let_symbol, delimiters, interim}
 use Rattle.mp_acts.specs.declared.target.Target.TheVariants as target
+use Rattle.mp_expand.specs.Fronts.{secondary_in, tertiary_in, begins_primary, begins_factor}
+use Rattle.mp_expand.specs.Steps.{take_first, enter}
+use Rattle.mp_expand.specs.Calls.{are_pair, call}
+use Rattle.mp_expand.specs.Advance.{advance}
+use Rattle.mp_expand.specs.declared.step.Answer.{Answer as Given}
+use Rattle.mp_expand.specs.declared.step.Answer.TheVariants as answer
+use Rattle.mp_expand.specs.declared.step.Step.{Step}
+use Rattle.mp_expand.specs.declared.step.Step.TheVariants as step
+use Rattle.mp_expand.specs.declared.step.Want.{Want}
+use Rattle.mp_expand.specs.declared.step.Want.TheVariants as want
 use Rattle.mp_rules.specs.Machine.{Rule}
-use Rattle.mp_rules.specs.Fronts.{symbol_front, taken_as, secondary_in, tertiary_in, begins_primary, begins_factor}
-use Rattle.mp_rules.specs.Steps.{take_first, enter, leave, see, see_string, hold, string_in_hand, acting, internal_number, unexpected, unexpected_raw}
+use Rattle.mp_rules.specs.Fronts.{taken_as}
+use Rattle.mp_rules.specs.Steps.{expanding, leave, see, see_string, see_value, hold, string_in_hand, value_in_hand, answering, acting, internal_number, unexpected, unexpected_raw}
 use Rattle.mp_rules.specs.Chains.{settle}
 use Rattle.mp_rules.specs.Definitions.{definition_read}
-use Rattle.mp_rules.specs.declared.front.Front.{Front}
-use Rattle.mp_rules.specs.declared.front.Front.TheVariants as front
+use Rattle.mp_expand.specs.declared.front.Front.{Front}
+use Rattle.mp_expand.specs.declared.front.Front.TheVariants as front
 use Rattle.mp_rules.specs.declared.front.Taken.{Taken}
 use Rattle.mp_rules.specs.declared.front.Taken.TheVariants as taken
-use Rattle.mp_rules.specs.declared.suffixes.TheConstants.{PART_LIMIT}
 use Rattle.mp_rules.specs.declared.front.Raw.{Raw}
 use Rattle.mp_rules.specs.declared.front.Raw.TheVariants as raw
 use Rattle.mp_rules.specs.declared.chain_side.ChainSide.{ChainSide as Side}
 use Rattle.mp_rules.specs.declared.chain_side.ChainSide.TheVariants as side
+use Rattle.mp_rules.specs.declared.named.Named.{Named}
+use Rattle.mp_rules.specs.declared.named.Named.TheVariants as named
 
 -- what is asked; a rule begins with the front in hand, or with the one behind it
 pub data What : Type 0 where
   NextFront : What
   NextRaw : What
+  Operand : Want → What
   NumberThen : ℤ → What
   Factor : Value → What
   VariableName : ℕ → What
+  NameFrom : ℕ → ℕ → List Part → What
   Suffix : List Part → What
   Group : What
   PrimaryInside : What
   Primary : What
+  LeadingInside : What
   Leading : What
   SecondaryRest : Value → What
   Secondary : What
@@ -88,7 +108,7 @@ pub data AnswerShape : Type 0 where
   OneRaw : AnswerShape
   OneValue : AnswerShape
   OneSide : AnswerShape
-  RootAndParts : AnswerShape
+  OneName : AnswerShape
   Parts : AnswerShape
   Shapes : AnswerShape
 
@@ -97,7 +117,7 @@ Answer Nothing = Unit {0}
 Answer OneRaw = Raw
 Answer OneValue = Value
 Answer OneSide = Side
-Answer RootAndParts = ℕ × List Part
+Answer OneName = Named
 Answer Parts = List Part
 Answer Shapes = List Shape
 
@@ -105,8 +125,11 @@ Answer Shapes = List Shape
 abbrev pub shape_of : What → AnswerShape
 shape_of NextFront = Nothing
 shape_of NextRaw = OneRaw
-shape_of (VariableName symbol) = RootAndParts
+shape_of (Operand w) = Nothing
+shape_of (VariableName symbol) = OneName
+shape_of (NameFrom symbol root parts) = OneName
 shape_of (Suffix parts) = Parts
+shape_of LeadingInside = OneSide
 shape_of Leading = OneSide
 shape_of ChainSide = OneSide
 shape_of ShowList = Nothing
@@ -125,23 +148,24 @@ Rules = (what : What) → Rule (AnswerTo what)
 
 -- FRONTS AND RAW ITEMS
 
-abbrev pub front_of_symbol : ℕ → Rule (Unit {0})
-front_of_symbol symbol = do
-  x ← symbol_front symbol
-  change (see x)
+-- what comes of one more item: a front comes to hand, or more is to be taken. Where a call asks for an operand, it is
+-- answered first
+abbrev pub step_by : Rules → Step → Rule (Unit {0})
+step_by rule step.More = rule NextFront
+step_by rule (step.Front x) = change (see x)
+step_by rule (step.Text bytes) = change (see_string bytes)
+step_by rule (step.Capsule v) = change (see_value v)
+step_by rule (step.Want w) = do
+  served ← rule (Operand w)
+  rule NextFront
 
-abbrev pub front_of : Rules → Taken → Rule (Unit {0})
-front_of rule (taken.Symbol symbol) = front_of_symbol symbol
-front_of rule (taken.Number n) = change (see (front.Number n))
-front_of rule (taken.Text bytes) = change (see_string bytes)
-front_of rule (taken.Bad cause) = halt (bad_token cause)
-front_of rule taken.Passed = rule NextFront
-front_of rule taken.Nothing = change (see front.EndOfText)
+abbrev pub advancing : Rule Step
+advancing s = expanding (advance s.acts.symbols.names) s
 
 abbrev pub taken_front : Rules → Rule (Unit {0})
 taken_front rule = do
-  x ← take_first
-  front_of rule (taken_as x)
+  x ← advancing
+  step_by rule x
 
 abbrev pub held_or_taken : Rules → Option Front → Rule (Unit {0})
 held_or_taken rule (Some x) s = Ok (tt, record s { front = x; held = None })
@@ -150,19 +174,43 @@ held_or_taken rule None s = taken_front rule s
 abbrev pub next_front : Rules → Rule (Unit {0})
 next_front rule s = held_or_taken rule s.held s
 
+-- a part of a name as an item of a text
+abbrev pub item_of_part : Part → Item
+item_of_part (part.Sym symbol) = item.Symbol symbol
+item_of_part (part.Sub units) = item.Number units
+
+-- what is answered to a call: an expression's value stands for itself, a suffix for its parts
+abbrev pub operand_of : Rules → Want → Rule Given
+operand_of rule want.Expression = do
+  v ← rule Expression
+  give (answer.Value v)
+operand_of rule want.Suffix = do
+  parts ← rule (Suffix [])
+  give (answer.Suffix (map item_of_part parts))
+
+-- the call goes on with the text, or asks for more
+abbrev pub wanted_by : Rules → Step → Rule (Unit {0})
+wanted_by rule (step.Want w) = rule (Operand w)
+wanted_by rule x = give tt
+
+-- what a call asks for, from the next front on, and what it asks for then
+abbrev pub operand : Rules → Want → Rule (Unit {0})
+operand rule w = do
+  first ← rule NextFront
+  a ← operand_of rule w
+  x ← answering a
+  wanted_by rule x
+
 -- the next item as it stands
 abbrev pub raw_of : Rules → Taken → Rule Raw
-raw_of rule (taken.Symbol symbol) = give (raw.Symbol symbol)
-raw_of rule (taken.Number n) = give raw.Number
-raw_of rule (taken.Text bytes) = give raw.Text
+raw_of rule (taken.Raw x) = give x
 raw_of rule (taken.Bad cause) = halt (bad_token cause)
 raw_of rule taken.Passed = rule NextRaw
-raw_of rule taken.Nothing = give raw.EndOfText
 
 abbrev pub next_raw : Rules → Rule Raw
 next_raw rule = do
   used ← change (see front.EndOfText)
-  x ← take_first
+  x ← expanding take_first
   raw_of rule (taken_as x)
 
 abbrev pub symbol_in : Raw → Rule ℕ
@@ -255,59 +303,119 @@ bracketed rule = do
   closed ← bracket_end
   acting (subscript v)
 
--- symbols that are tags or internals, numbers, and subscripts in brackets
-abbrev pub suffix_by : Rules → List Part → Front → Rule (List Part)
-suffix_by rule parts (front.Tag symbol) = part_on rule parts (part.Sym symbol)
-suffix_by rule parts (front.Internal symbol k) = part_on rule parts (part.Sym symbol)
-suffix_by rule parts (front.Number n) = part_on rule parts (part.Sub n)
-suffix_by rule parts (front.Word symbol word.LeftBracket) = do
+-- a part of a name was read, and its front is used up
+abbrev pub part_used : Part → Rule (Option Part)
+part_used p = do
+  used ← change (see front.EndOfText)
+  give (Some p)
+
+-- a part of a name: a symbol that is a tag or an internal, a number, or a subscript in brackets
+abbrev pub part_by : Rules → Front → Rule (Option Part)
+part_by rule (front.Tag symbol) = part_used (part.Sym symbol)
+part_by rule (front.Internal symbol k) = part_used (part.Sym symbol)
+part_by rule (front.Number n) = part_used (part.Sub n)
+part_by rule (front.Word symbol word.LeftBracket) = do
   value ← bracketed rule
-  part_on rule parts (part.Sub value)
-suffix_by rule parts x = give parts
+  part_used (part.Sub value)
+part_by rule x = give None
+
+abbrev pub part_here : Rules → Rule (Option Part)
+part_here rule s = part_by rule s.front s
+
+-- parts up to a front that is none
+abbrev pub suffix_by : Rules → List Part → Option Part → Rule (List Part)
+suffix_by rule parts None = give parts
+suffix_by rule parts (Some p) = part_on rule parts p
 
 abbrev pub suffix : Rules → List Part → Rule (List Part)
-suffix rule parts s = suffix_by rule parts s.front s
+suffix rule parts = do
+  p ← part_here rule
+  suffix_by rule parts p
 
--- the root of a tag and the parts behind it. A name that begins with that of a macro is refused: calls are not built
-abbrev pub variable_name : Rules → ℕ → Rule (ℕ × List Part)
+-- #@, @ and @#: what stands before the last part of a name, that part, and nothing behind the name of the macro
+abbrev pub name_items : ℕ → List Part → List Item
+name_items symbol parts = item.Symbol symbol ∷ map item_of_part parts
+
+abbrev pub called_with : ℕ → List Part → List (List Item)
+called_with symbol parts =
+    take (length parts) (name_items symbol parts) ∷ drop (length parts) (name_items symbol parts) ∷ [] ∷ []
+
+-- a name that is that of a macro calls it at once; with @# at its end that is not built
+abbrev pub called_by : Rules → ℕ → List Part → Macro → Level → Rule Named
+called_by rule symbol parts m level.Variable = do
+  called ← expanding (call m (called_with symbol parts))
+  next ← rule NextFront
+  give named.Called
+called_by rule symbol parts m other = halt (not_built (name_of_definition (definition_of other)))
+
+-- one more part of a name, unless the name ends here
+abbrev pub name_on : Rules → ℕ → ℕ → List Part → Option Part → Rule Named
+name_on rule symbol root parts None = give (named.Variable root parts)
+name_on rule symbol root parts (Some p) = do
+  room ← room_for_part (length parts)
+  rule (NameFrom symbol root (parts ++ p ∷ []))
+
+abbrev pub name_from_by : Rules → ℕ → ℕ → List Part → Option Macro → Rule Named
+name_from_by rule symbol root parts (Some m) = called_by rule symbol parts m m.level
+name_from_by rule symbol root parts None = do
+  next ← rule NextFront
+  p ← part_here rule
+  name_on rule symbol root parts p
+
+-- a variable's name so far, behind its last part
+abbrev pub name_from : Rules → ℕ → ℕ → List Part → Rule Named
+name_from rule symbol root parts s = name_from_by rule symbol root parts (macro_named s.acts root parts) s
+
+-- the root of a tag and the parts behind it, or a call of the macro that the shortest beginning of the name is that of
+abbrev pub variable_name : Rules → ℕ → Rule Named
 variable_name rule symbol = do
   root ← acting (root_of symbol)
-  next ← rule NextFront
-  parts ← rule (Suffix [])
-  called ← acting (no_call root parts)
-  give (root, parts)
+  rule (NameFrom symbol root [])
 
--- a variable is read when the front behind its name was got
+-- a variable is read when the front behind its name was got; none where a macro was called in its place
+abbrev pub variable_named : ℕ → Named → Rule (Option Value)
+variable_named symbol (named.Variable root parts) = do
+  v ← acting (read symbol root parts)
+  give (Some v)
+variable_named symbol named.Called = give None
+
+abbrev pub variable_or_call : Rules → ℕ → Rule (Option Value)
+variable_or_call rule symbol = do
+  name ← rule (VariableName symbol)
+  variable_named symbol name
+
+-- behind a call the primary begins anew
+abbrev pub or_begun_anew : Rules → Option Value → Rule Value
+or_begun_anew rule (Some v) = give v
+or_begun_anew rule None = rule PrimaryInside
+
 abbrev pub variable : Rules → ℕ → Rule Value
 variable rule symbol = do
-  name ← rule (VariableName symbol)
-  acting (read symbol name.0 name.1)
-
--- the two delimiters are a pair
-abbrev pub are_pair : Delimiters → Delimiters → Bool
-are_pair a b = nat_eq a.left b.left && nat_eq a.right b.right
+  v ← variable_or_call rule symbol
+  or_begun_anew rule v
 
 abbrev pub unclosed : {A : Type 0} → Delimiters → Rule A
 unclosed pair s = unexpected (symbol_name s.acts pair.right) s
 
-abbrev pub closed_if : Rules → Bool → Delimiters → Value → Rule Value
-closed_if rule true pair v = do
-  next ← rule NextFront
-  give v
-closed_if rule false pair v = unclosed pair
+abbrev pub closed_if : Bool → Delimiters → Rule (Unit {0})
+closed_if true pair = give tt
+closed_if false pair = unclosed pair
 
-abbrev pub closed_by : Rules → Delimiters → Value → Front → Rule Value
-closed_by rule pair v (front.Right symbol other) = closed_if rule (are_pair pair other) pair v
-closed_by rule pair v x = unclosed pair
+abbrev pub closed_by : Delimiters → Front → Rule (Unit {0})
+closed_by pair (front.Right symbol other) = closed_if (are_pair pair other) pair
+closed_by pair x = unclosed pair
 
-abbrev pub closed : Rules → Delimiters → Value → Rule Value
-closed rule pair v s = closed_by rule pair v s.front s
+-- the right one of two delimiters is in hand
+abbrev pub closed : Delimiters → Rule (Unit {0})
+closed pair s = closed_by pair s.front s
 
 -- ( EXPRESSION )
 abbrev pub parenthesis : Rules → Delimiters → Rule Value
 parenthesis rule pair = do
   v ← next_expression rule
-  closed rule pair v
+  end ← closed pair
+  next ← rule NextFront
+  give v
 
 -- begingroup STATEMENTS EXPRESSION endgroup; the end of the group takes effect before the front behind it is got
 abbrev pub group : Rules → Rule Value
@@ -325,6 +433,13 @@ string_primary rule = do
   bytes ← string_in_hand
   next ← rule NextFront
   acting (string_token bytes)
+
+-- a value that stands for an expression
+abbrev pub value_primary : Rules → Rule Value
+value_primary rule = do
+  v ← value_in_hand
+  next ← rule NextFront
+  give v
 
 abbrev pub internal : Rules → ℕ → Rule Value
 internal rule k = do
@@ -351,6 +466,7 @@ applied_by rule None = unexpected (codes "primary")
 abbrev pub primary_by : Rules → Front → Rule Value
 primary_by rule (front.Number n) = number rule n
 primary_by rule front.Text = string_primary rule
+primary_by rule front.Capsule = value_primary rule
 primary_by rule (front.Word symbol word.Begingroup) = rule Group
 primary_by rule (front.Word symbol word.Str) = str_primary rule
 primary_by rule (front.Word symbol w) = applied_by rule (unary_of w)
@@ -365,7 +481,7 @@ primary_inside rule s = primary_by rule s.front s
 -- a primary; so many may be read inside one another
 abbrev pub primary : Rules → Rule Value
 primary rule = do
-  entered ← enter
+  entered ← expanding enter
   v ← rule PrimaryInside
   risen ← change leave
   give v
@@ -389,10 +505,15 @@ internal_side_by k x = do
 abbrev pub internal_side : ℕ → Rule Side
 internal_side k s = internal_side_by k s.front s
 
+-- behind a call the side begins anew
+abbrev pub leading_named : Rules → ℕ → Named → Rule Side
+leading_named rule symbol (named.Variable root parts) = variable_side symbol root parts
+leading_named rule symbol named.Called = rule LeadingInside
+
 abbrev pub leading_by : Rules → Front → Rule Side
 leading_by rule (front.Tag symbol) = do
   name ← rule (VariableName symbol)
-  variable_side symbol name.0 name.1
+  leading_named rule symbol name
 leading_by rule (front.Internal symbol k) = do
   next ← rule NextFront
   internal_side k
@@ -405,8 +526,8 @@ leading_inside rule s = leading_by rule s.front s
 
 abbrev pub leading : Rules → Rule Side
 leading rule = do
-  entered ← enter
-  p ← leading_inside rule
+  entered ← expanding enter
+  p ← rule LeadingInside
   risen ← change leave
   give p
 
@@ -593,21 +714,24 @@ raw_equals rule = do
   sign ← rule NextRaw
   equals_in sign
 
--- let SYMBOL = SYMBOL
+-- let SYMBOL = SYMBOL, which takes effect before the next front is got
 abbrev pub let_equal : Rules → Rule (Unit {0})
 let_equal rule = do
   symbol ← raw_symbol rule
   equals ← raw_equals rule
   other ← raw_symbol rule
-  done ← acting (change (let_symbol symbol other))
-  rule NextFront
+  acting (change (let_symbol symbol other))
 
--- delimiters SYMBOL SYMBOL
+-- delimiters SYMBOL SYMBOL, likewise
 abbrev pub delimiter_pair : Rules → Rule (Unit {0})
 delimiter_pair rule = do
   begin ← raw_symbol rule
   end ← raw_symbol rule
-  done ← acting (change (delimiters begin end))
+  acting (change (delimiters begin end))
+
+abbrev pub then_next : Rules → Rule (Unit {0}) → Rule (Unit {0})
+then_next rule act = do
+  done ← act
   rule NextFront
 
 -- interim INTERNAL := EXPRESSION
@@ -653,8 +777,8 @@ abbrev pub command_rest : Rules → Command → Rule (Unit {0})
 command_rest rule command.Show = rule ShowList
 command_rest rule (command.Symbols c) = rule (SymbolList c)
 command_rest rule command.Interim = interim_value rule
-command_rest rule command.Let = let_equal rule
-command_rest rule command.Delimiters = delimiter_pair rule
+command_rest rule command.Let = then_next rule (let_equal rule)
+command_rest rule command.Delimiters = then_next rule (delimiter_pair rule)
 command_rest rule (command.Speech speech) = spoken rule speech
 command_rest rule (command.Mode m) = rule NextFront
 command_rest rule (command.Type kind) = rule (TypeList kind)
@@ -662,11 +786,10 @@ command_rest rule (command.Type kind) = rule (TypeList kind)
 -- DEFINITIONS
 
 -- a definition, which takes effect before the front behind it is got
-abbrev pub definition : Rules → Definition → Rule (Unit {0})
-definition rule w = do
+abbrev pub definition : Definition → Rule (Unit {0})
+definition w = do
   r ← definition_read (start w group_symbols)
-  done ← acting (define (defined r))
-  rule NextFront
+  acting (define (defined r))
 
 -- STATEMENTS
 
@@ -684,7 +807,7 @@ statement_by rule (front.Word symbol (word.Command c)) = do
   done ← rule (CommandRest c)
   give value.Vacuous
 statement_by rule (front.Word symbol (word.Definition w)) = do
-  done ← definition rule w
+  done ← then_next rule (definition w)
   give value.Vacuous
 statement_by rule x = chain_if rule (begins_primary x)
 
@@ -752,13 +875,16 @@ statements rule = do
 unfoldable pub case : Rules → Rules
 case rule NextFront = next_front rule
 case rule NextRaw = next_raw rule
+case rule (Operand w) = operand rule w
 case rule (NumberThen n) = number_then rule n
 case rule (Factor v) = factor rule v
 case rule (VariableName symbol) = variable_name rule symbol
+case rule (NameFrom symbol root parts) = name_from rule symbol root parts
 case rule (Suffix parts) = suffix rule parts
 case rule Group = group rule
 case rule PrimaryInside = primary_inside rule
 case rule Primary = primary rule
+case rule LeadingInside = leading_inside rule
 case rule Leading = leading rule
 case rule (SecondaryRest v) = secondary_rest rule v
 case rule Secondary = secondary rule

@@ -1,27 +1,24 @@
 -- Where a run over a text starts, and the whole of it.
-use Rattle.std.specs.Prelude.{ℕ, List, [], None, map}
+use Rattle.std.specs.Prelude.{List, [], None, map}
 use Rattle.mp_files.specs.declared.outside.Kept.{Kept}
-use Rattle.mp_report.specs.declared.place.Place.{Place}
 use Rattle.mp_values.specs.Outcome.{◌>>=◌}
-use Rattle.mp_values.specs.declared.turn.Pending.{Pending}
+use Rattle.mp_values.specs.declared.value.Value.TheVariants.{Vacuous}
 use Rattle.mp_acts.specs.State.{State}
 use Rattle.mp_rules.specs.Machine.{Machine, Rule}
 use Rattle.mp_rules.specs.Rules.{Rules, NextFront, Statements}
-use Rattle.mp_rules.specs.declared.front.Front.TheVariants as front
+use Rattle.mp_expand.specs.Expansion.{Expansion}
+use Rattle.mp_expand.specs.declared.front.Front.TheVariants as front
 
 -- before the first front of a text, when these sources were asked for
-abbrev pub start_on : List Kept → List Pending → Place → State → ℕ → Machine
-start_on sources text last acts budget = record {
+abbrev pub start_on : List Kept → Expansion → State → Machine
+start_on sources expander acts = record {
   sources = sources;
   asked = map (λ k. k.name) sources;
-  text = text;
+  expander = expander;
   front = front.EndOfText;
   held = None;
   string = [];
-  last = last;
-  steps = 0;
-  budget = budget;
-  nesting = 0;
+  value = Vacuous;
   acts = acts;
 }
 

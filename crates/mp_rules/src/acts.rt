@@ -1,12 +1,12 @@
 //! The acts of statements and expressions, within a run: each takes its values, which it gives up.
 
-ghost use Rattle.std.specs.Prelude.{◌≡◌, ◌<◌, Ok};
+ghost use Rattle.std.specs.Prelude.{◌≡◌, ◌<◌, Ok, Err, IfOk, OnErr};
 ghost use Rattle.mp_values.specs.Outcome.{change, lift};
 ghost use Rattle.mp_acts.specs.Counts.{IsWithin, greatest, nothing};
 ghost use Rattle.mp_acts.specs.Arithmetic as arithmetic;
 ghost use Rattle.mp_acts.specs.Groups as groups;
 ghost use Rattle.mp_acts.specs.Lines as lines;
-ghost use Rattle.mp_acts.specs.Reach.{reach, reach_of_part};
+ghost use Rattle.mp_acts.specs.Reach.{reach, reach_of_item, reach_of_macro, reach_of_part};
 ghost use Rattle.mp_acts.specs.State.{symbol_count, internal_count};
 ghost use Rattle.mp_acts.specs.Suffixes as suffixes;
 ghost use Rattle.mp_acts.specs.Variables as variables;
@@ -18,8 +18,8 @@ ghost use Rattle.mp_rules.specs.Steps.{acting, internal_number};
 use crate::chain_side::ChainSide;
 use crate::evaluator::Evaluator;
 use mp_macro::Defined;
-use mp_scaled::SharedSlice;
-use mp_values::{Kind, Scaled, Secondary, Speech, Stop, SymbolCommand, Tertiary, Unary, Value};
+use mp_scaled::{Shared, SharedSlice};
+use mp_values::{Kind, Macro, Scaled, Secondary, Speech, Stop, SymbolCommand, Tertiary, Unary, Value};
 use mp_vartree::{Pattern, Suffix};
 
 impl Evaluator {
@@ -110,18 +110,23 @@ impl Evaluator {
     /// Defines a macro.
     #[tactic(auto, using(crate::proofs::Stops::fault_stops))]
     pub(crate) fn define(&mut self, made: Defined) -> Result<(), Stop>
-        requires { made.symbol < symbol_count self.old.acts }
+        requires symbol { made.symbol < symbol_count self.old.acts }
+        requires body { IsWithin (greatest reach_of_item made.value.body) (things self.old) }
         ensures { Acts (acting (variables.define made)) result self.old self.new }
     {
         Ok(self.acts.do_define(made)?)
     }
 
-    /// Refuses a name that begins with that of a macro.
-    #[tactic(auto, using(crate::proofs::Stops::fault_stops))]
-    pub(crate) fn no_call(&self, root: u32, name: &Suffix) -> Result<(), Stop>
-        ensures { Acts (acting (variables.no_call root name.now)) result self.now self.now }
+    /// The macro that a name, or the shortest beginning of it that is one, is the name of.
+    pub(crate) fn macro_named(&self, root: u32, name: &Suffix) -> Result<Option<Shared<Macro>>, Stop>
+        ensures exact { IfOk result (λ m. m ≡ variables.macro_named self.now.acts root name.now) }
+        ensures within { IfOk result (λ m. IsWithin (reach_of_macro m) (things self.now)) }
+        ensures starved { OnErr result (result ≡ Err Stop.NoMemory) }
     {
-        Ok(self.acts.no_call(root, name.as_slice())?)
+        match self.acts.macro_named(root, name.as_slice()) {
+            Some(called) => Ok(Some(called.share()?)),
+            None => Ok(None),
+        }
     }
 
     /// The text of a suffix, as a string.

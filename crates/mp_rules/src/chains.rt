@@ -13,7 +13,7 @@ ghost use Rattle.mp_rules.specs.Steps.{acting};
 
 use crate::chain_side::ChainSide;
 use crate::evaluator::Evaluator;
-use crate::front::Front;
+use mp_expand::Front;
 use mp_scaled::NoMemory;
 use mp_values::{Stop, Value, Word};
 

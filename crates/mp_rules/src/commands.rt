@@ -2,12 +2,13 @@
 
 ghost use Rattle.std.specs.Prelude.{◌≡◌};
 ghost use Rattle.mp_rules.specs.Rules.{ShowList, SymbolList, TypeList, CommandRest};
-ghost use Rattle.mp_rules.specs.Promises.{Means, Uses, UsesInternal};
+ghost use Rattle.mp_rules.specs.Promises.{Means, Acts, ActsInternal, Uses};
 ghost use Rattle.mp_rules.specs.Meaning.{the};
 ghost use Rattle.mp_rules.specs.Rules as rules;
 
 use crate::evaluator::Evaluator;
-use crate::front::{Front, Raw};
+use crate::front::Raw;
+use mp_expand::Front;
 use mp_values::{Command, Kind, Meaning, Speech, Stop, SymbolCommand, Word};
 
 impl Evaluator {
@@ -28,6 +29,7 @@ impl Evaluator {
     }
 
     /// Symbols, with each of which the command is done before the front behind it is got.
+    #[cycle(eval)]
     #[tactic(auto, using(crate::proofs::Cases::symbol_list_is))]
     fn symbol_list(&mut self, command: SymbolCommand) -> Result<(), Stop>
         ensures { Means (SymbolList command) result self.old self.new }
@@ -44,6 +46,7 @@ impl Evaluator {
     }
 
     /// Names whose variables get a type; each is declared when the front behind it was got.
+    #[cycle(eval)]
     #[tactic(auto, using(crate::proofs::Cases::type_list_is))]
     fn type_list(&mut self, kind: Kind) -> Result<(), Stop>
         ensures { Means (TypeList kind) result self.old self.new }
@@ -81,8 +84,7 @@ impl Evaluator {
         let symbol = self.raw_symbol()?;
         self.equals()?;
         let other = self.raw_symbol()?;
-        self.let_symbol(symbol, other)?;
-        self.next_front()
+        self.let_symbol(symbol, other)
     }
 
     fn delimiter_pair(&mut self) -> Result<(), Stop>
@@ -91,23 +93,21 @@ impl Evaluator {
         let left = self.raw_symbol()?;
         let right = self.raw_symbol()?;
         self.delimiters(left, right);
-        self.next_front()
+        Ok(())
     }
 
-    fn internal_name(&mut self) -> Result<u32, Stop>
-        ensures { UsesInternal (rules.internal_name the) result self.old self.new }
+    fn internal_here(&self) -> Result<u32, Stop>
+        ensures { ActsInternal rules.internal_here result self.now self.now }
     {
-        self.next_front()?;
         match self.sign() {
             Front::Internal(_, k) => Ok(k),
             _ => Err(self.unexpected(b"symbol")),
         }
     }
 
-    fn assign_sign(&mut self) -> Result<(), Stop>
-        ensures { Uses (rules.assign_sign the) result self.old self.new }
+    fn assign_here(&self) -> Result<(), Stop>
+        ensures { Acts rules.assign_here result self.now self.now }
     {
-        self.next_front()?;
         match self.sign() {
             Front::Word(_, Word::Assign) => Ok(()),
             _ => Err(self.unexpected(b":=")),
@@ -118,8 +118,10 @@ impl Evaluator {
     fn interim_value(&mut self) -> Result<(), Stop>
         ensures { Uses (rules.interim_value the) result self.old self.new }
     {
-        let k = self.internal_name()?;
-        self.assign_sign()?;
+        self.next_front()?;
+        let k = self.internal_here()?;
+        self.next_front()?;
+        self.assign_here()?;
         let value = self.next_expression()?;
         self.interim(k, value)
     }
@@ -143,8 +145,14 @@ impl Evaluator {
             Command::Show => self.show_list(),
             Command::Symbols(command) => self.symbol_list(command),
             Command::Interim => self.interim_value(),
-            Command::Let => self.let_equal(),
-            Command::Delimiters => self.delimiter_pair(),
+            Command::Let => {
+                self.let_equal()?;
+                self.next_front()
+            }
+            Command::Delimiters => {
+                self.delimiter_pair()?;
+                self.next_front()
+            }
             Command::Speech(speech) => self.spoken(speech),
             Command::Mode(_) => self.next_front(),
             Command::Type(kind) => self.type_list(kind),

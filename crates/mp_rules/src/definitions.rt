@@ -4,16 +4,15 @@ ghost use Rattle.std.specs.Prelude.{◌≡◌, ◌<◌};
 ghost use Rattle.mp_macro.specs.Definitions.{start};
 ghost use Rattle.mp_acts.specs.Counts.{IsWithin};
 ghost use Rattle.mp_acts.specs.Definitions.{group_symbols};
-ghost use Rattle.mp_acts.specs.Reach.{one_symbol};
 ghost use Rattle.mp_rules.specs.Definitions.{pending_read, definition_read};
 ghost use Rattle.mp_rules.specs.Machine.{things};
 ghost use Rattle.mp_rules.specs.Meaning.{the};
-ghost use Rattle.mp_rules.specs.Promises.{Uses, ActsReading, UsesReading};
+ghost use Rattle.mp_rules.specs.Promises.{reach_of_reading, Uses, ActsReading, UsesReading};
 ghost use Rattle.mp_rules.specs.Reach.{reach_of_pending};
 ghost use Rattle.mp_rules.specs.Rules as rules;
 
 use crate::evaluator::Evaluator;
-use crate::front::Front;
+use mp_expand::Front;
 use mp_macro::MacroReader;
 use mp_report::SourceError;
 use mp_values::{Definition, Pending, Stop};
@@ -21,11 +20,10 @@ use mp_values::{Definition, Pending, Stop};
 impl Evaluator {
     /// A definition, behind the word that it begins with. It takes effect before the front behind it is got.
     pub(crate) fn definition(&mut self, word: Definition) -> Result<(), Stop>
-        ensures { Uses (rules.definition the word) result self.old self.new }
+        ensures { Uses (rules.definition word) result self.old self.new }
     {
         let made = self.read_definition(word)?.finish()?;
-        self.define(made)?;
-        self.next_front()
+        self.define(made)
     }
 
     /// The items of a definition, until it is whole.
@@ -47,7 +45,7 @@ impl Evaluator {
     /// What was taken, as a definition reads it.
     #[tactic(auto, using(crate::proofs::DefinitionLemmas::read_fault_stops))]
     fn read_pending(&self, reader: MacroReader, taken: Pending) -> Result<MacroReader, Stop>
-        requires reader { IsWithin (one_symbol reader.symbol) (things self.now) }
+        requires reader { IsWithin (reach_of_reading reader) (things self.now) }
         requires taken { IsWithin (reach_of_pending taken) (things self.now) }
         ensures { ActsReading (pending_read taken reader) result self.now self.now }
     {

@@ -2,46 +2,48 @@
 
 ghost use Rattle.std.specs.Prelude.{◌≡◌, ◌≢◌, ◌<◌, ◌≤◌, List, ℕ, Err, map};
 ghost use Rattle.mp_values.specs.Outcome.{IsStop, Yields};
-ghost use Rattle.mp_rules.specs.Fronts.{stood, raw_stood, refused_front, refused_raw};
-ghost use Rattle.mp_rules.specs.Promises.{Acts, Took};
+ghost use Rattle.mp_expand.specs.Advance.{items_of};
+ghost use Rattle.mp_expand.specs.Calls.{call};
+ghost use Rattle.mp_expand.specs.Steps.{enter};
+ghost use Rattle.mp_acts.specs.Counts.{greatest};
+ghost use Rattle.mp_acts.specs.Reach.{reach, reach_of_item};
+ghost use Rattle.mp_rules.specs.Fronts.{raw_stood, refused_front, refused_raw};
+ghost use Rattle.mp_rules.specs.Promises.{Acts, ActsValue, Advances, Answers, Took};
 ghost use Rattle.mp_rules.specs.Starts.{start_on, whole};
 ghost use Rattle.mp_rules.specs.Meaning.{the};
 ghost use Rattle.mp_rules.specs.Steps as steps;
-ghost use Rattle.mp_rules.specs.Reach.{reach_of_text, reach_of_front, reach_of_held, reach_of_raw};
+ghost use Rattle.mp_rules.specs.Steps.{expanding};
+ghost use Rattle.mp_rules.specs.Reach.{reach_of_expansion, reach_of_front, reach_of_held, reach_of_raw};
 ghost use Rattle.mp_rules.specs.Machine.{things};
 ghost use Rattle.mp_acts.specs.Counts.{IsWithin};
 ghost use Rattle.mp_acts.specs.State.{counts, symbol_count};
 
-use crate::front::{Front, Raw};
+use crate::front::Raw;
 use mp_acts::State;
+use mp_expand::{Answer, Expander, Front, Step};
 use mp_files::Sources;
-use mp_input::Input;
-use mp_report::{Cap, Place, SourceError};
-use mp_scaled::{NoMemory, SharedSlice};
-use mp_values::{Pending, Secondary, Stop, Word};
+use mp_report::Place;
+use mp_scaled::{Shared, SharedSlice};
+use mp_values::{Arguments, Macro, Pending, Secondary, Stop, Value, Word};
 use std::alloc::Global;
 use std::marker::Model;
-
-/// So many primaries may be read inside one another.
-pub const NESTING_LIMIT: u32 = 100;
 
 /// A run over a text: what is left to read, and what statements act on. Contracts see its machine.
 #[derive(Drop)]
 pub struct Evaluator {
     pub(crate) alloc: Global,
     sources: Sources,
-    input: Input,
+    expander: Expander,
     front: Front,
     held: Option<Front>,
     string: Option<SharedSlice<u8>>,
-    steps: u64,
-    budget: u64,
-    nesting: u32,
+    value: Option<Shared<Value>>,
     pub(crate) acts: State,
 }
 
 impl Model for Evaluator {
     ghost use Rattle.std.specs.Prelude.{◌≤◌, map, unwrap_or, []};
+    ghost use Rattle.mp_values.specs.declared.value.Value.TheVariants.{Vacuous};
     ghost use Rattle.mp_rules.specs.Machine.{Machine};
 
     ghost Value = { Machine };
@@ -49,21 +51,18 @@ impl Model for Evaluator {
     ghost view = { λ r. record {
       sources = r.sources;
       asked = map (λ k. k.name) r.sources;
-      text = r.input.text;
+      expander = r.expander;
       front = r.front;
       held = r.held;
       string = unwrap_or r.string [];
-      last = r.input.last;
-      steps = r.steps;
-      budget = r.budget;
-      nesting = r.nesting;
+      value = unwrap_or r.value Vacuous;
       acts = r.acts;
     } };
 
     ghost use Rattle.mp_acts.specs.State.{counts};
     ghost use Rattle.mp_rules.specs.Reach.{IsReadable};
 
-    ghost invariant = { λ r. (r.steps ≤ r.budget) × IsReadable r.input.text r.front r.held (counts r.acts) };
+    ghost invariant = { λ r. IsReadable r.expander r.front r.held (unwrap_or r.value Vacuous) (counts r.acts) };
 }
 
 /// What a run leaves.
@@ -78,20 +77,18 @@ pub struct Finished {
 
 impl Evaluator {
     /// An evaluator at the start of a text. Each source was asked for once.
-    pub fn new(alloc: Global, sources: Sources, input: Input, acts: State, budget: u64) -> Evaluator
-        requires { IsWithin (reach_of_text input.text) (counts acts) }
-        ensures { result ≡ start_on sources input.text input.last acts budget }
+    pub fn new(alloc: Global, sources: Sources, expander: Expander, acts: State) -> Evaluator
+        requires { IsWithin (reach_of_expansion expander) (counts acts) }
+        ensures { result ≡ start_on sources expander acts }
     {
         Evaluator {
             alloc,
             sources,
-            input,
+            expander,
             front: Front::EndOfText,
             held: None,
             string: None,
-            steps: 0,
-            budget,
-            nesting: 0,
+            value: None,
             acts,
         }
     }
@@ -100,11 +97,11 @@ impl Evaluator {
     #[tactic(auto, using(crate::proofs::Spent::run_spent, crate::proofs::Spent::run_read))]
     pub fn run(&mut self) -> Result<(), Stop>
         ensures meaning { Yields result self.new (whole the self.old) }
-        ensures kept { self.new.budget ≡ self.old.budget }
+        ensures kept { self.new.expander.budget ≡ self.old.expander.budget }
         ensures files { self.new.sources ≡ self.old.sources }
         ensures asked { self.new.asked ≡ self.old.asked }
         ensures read { (name : List ℕ) → result ≢ Err (Stop.Unread name) }
-        ensures spent { result ≡ Err Stop.OutOfSteps → self.new.steps ≡ self.new.budget }
+        ensures spent { result ≡ Err Stop.OutOfSteps → self.new.expander.steps ≡ self.new.expander.budget }
     {
         self.keeps_count();
         let result = self.read_whole();
@@ -115,14 +112,14 @@ impl Evaluator {
     /// What an evaluator keeps, for a proof. It does nothing.
     fn keeps_count(&self)
         ensures asked { self.now.asked ≡ map (λ k. k.name) self.now.sources }
-        ensures within { self.now.steps ≤ self.now.budget }
+        ensures within { self.now.expander.steps ≤ self.now.expander.budget }
     {
-        let _ = &self.steps;
+        let _ = self.expander.steps();
     }
 
     fn read_whole(&mut self) -> Result<(), Stop>
         ensures meaning { Yields result self.new (whole the self.old) }
-        ensures kept { self.new.budget ≡ self.old.budget }
+        ensures kept { self.new.expander.budget ≡ self.old.expander.budget }
         ensures files { self.new.sources ≡ self.old.sources }
     {
         self.next_front()?;
@@ -132,49 +129,65 @@ impl Evaluator {
     /// What the run leaves.
     pub fn finish(self) -> Finished
         ensures sources { result.sources ≡ self.sources }
-        ensures steps { result.steps ≡ self.steps }
+        ensures steps { result.steps ≡ self.expander.steps }
         ensures acts { result.acts ≡ self.acts }
-        ensures within { result.steps ≤ self.budget }
+        ensures within { result.steps ≤ self.expander.budget }
     {
         let Evaluator {
             alloc: _,
             sources,
-            input: _,
+            expander,
             front: _,
             held: _,
             string: _,
-            steps,
-            budget: _,
-            nesting: _,
+            value: _,
             acts,
         } = self;
         Finished {
             sources,
-            steps,
+            steps: expander.steps(),
             acts,
         }
     }
 
-    /// One step: what is first in the text.
-    #[tactic(auto, using(crate::proofs::ReachLemmas::taken_within), unfolding(crate::specs::Steps::take_first))]
+    /// What is first in the text, as it stands: a step.
+    #[tactic(auto, using(crate::proofs::TextLemmas::take_within, crate::proofs::TextLemmas::take_counted, crate::proofs::TextLemmas::stops_in_text))]
     pub(crate) fn take(&mut self) -> Result<Option<Pending>, Stop>
         ensures took { Took result self.old self.new }
         ensures front { self.new.front ≡ self.old.front }
         ensures held { self.new.held ≡ self.old.held }
     {
-        if self.steps < self.budget {
-            match self.input.take()? {
-                Some(first) => {
-                    self.steps += 1;
-                    Ok(Some(first))
-                }
-                None => Ok(None),
-            }
-        } else if self.input.is_over() {
-            Ok(None)
-        } else {
-            Err(Stop::OutOfSteps)
-        }
+        self.expander.take()
+    }
+
+    /// One more item: a front, an operand that a call asks for, or nothing yet.
+    pub(crate) fn advance(&mut self) -> Result<Step, Stop>
+        ensures advances { Advances result self.old self.new }
+        ensures front { self.new.front ≡ self.old.front }
+        ensures held { self.new.held ≡ self.old.held }
+    {
+        self.expander.next(self.acts.table())
+    }
+
+    /// Answers a call that waits, with the front in hand, which is used up.
+    pub(crate) fn answer(&mut self, answer: Answer) -> Result<Step, Stop>
+        requires { IsWithin (greatest reach_of_item (items_of answer)) (things self.old) }
+        ensures answers { Answers answer result self.old self.new }
+        ensures hand { self.new.front ≡ Front.EndOfText }
+    {
+        let front = self.front;
+        self.front = Front::EndOfText;
+        self.expander.answer(self.acts.table(), answer, front)
+    }
+
+    /// Calls the macro of a variable, with what it is told of its name.
+    pub(crate) fn call(&mut self, called: Shared<Macro>, arguments: Arguments) -> Result<(), Stop>
+        requires body { IsWithin (greatest reach_of_item called.body) (things self.old) }
+        requires arguments { IsWithin (greatest (greatest reach_of_item) arguments) (things self.old) }
+        ensures acts { Acts (expanding (call called arguments)) result self.old self.new }
+        ensures hand { self.new.front ≡ self.old.front }
+    {
+        self.expander.call(called, arguments)
     }
 
     /// The front in hand.
@@ -199,6 +212,26 @@ impl Evaluator {
     {
         self.front = Front::Text;
         self.string = Some(bytes);
+    }
+
+    /// A value comes to hand.
+    pub(crate) fn see_value(&mut self, value: Shared<Value>)
+        requires { IsWithin (reach value) (things self.old) }
+        ensures { self.new ≡ steps.see_value value self.old }
+    {
+        self.front = Front::Capsule;
+        self.value = Some(value);
+    }
+
+    /// The value in hand.
+    pub(crate) fn value_in_hand(&mut self) -> Result<Value, Stop>
+        ensures acts { ActsValue steps.value_in_hand result self.old self.new }
+        ensures hand { self.new.front ≡ self.old.front }
+    {
+        match self.value.take() {
+            Some(value) => Ok(value.get().copy(self.alloc)?),
+            None => Ok(Value::Vacuous),
+        }
     }
 
     /// The bytes of the string in hand.
@@ -234,43 +267,22 @@ impl Evaluator {
     pub fn place(&self) -> Place
         ensures { result ≡ steps.place_of self.now }
     {
-        self.input.place()
+        self.expander.place()
     }
 
     /// One more primary is read.
-    #[tactic(auto, unfolding(crate::specs::Steps::enter))]
     pub(crate) fn enter(&mut self) -> Result<(), Stop>
-        ensures acts { Acts steps.enter result self.old self.new }
+        ensures acts { Acts (expanding enter) result self.old self.new }
         ensures hand { self.new.front ≡ self.old.front }
     {
-        if self.nesting >= NESTING_LIMIT {
-            return Err(Stop::Refused(SourceError::Limit(Cap::Nesting, NESTING_LIMIT)));
-        }
-        self.nesting += 1;
-        Ok(())
+        self.expander.enter()
     }
 
     /// A primary was read.
     pub(crate) fn leave(&mut self)
         ensures { self.new ≡ steps.leave self.old }
     {
-        self.nesting = self.nesting.saturating_sub(1);
-    }
-
-    /// What a front that stood where something else was wanted is called.
-    fn stood(&self) -> &[u8]
-        ensures { result.now ≡ stood self.now.acts self.now.front }
-    {
-        match self.front {
-            Front::Number(_) => b"number",
-            Front::Text => b"string",
-            Front::Word(symbol, _) => self.acts.symbol_name(symbol),
-            Front::Tag(symbol) => self.acts.symbol_name(symbol),
-            Front::Internal(symbol, _) => self.acts.symbol_name(symbol),
-            Front::Left(symbol, _) => self.acts.symbol_name(symbol),
-            Front::Right(symbol, _) => self.acts.symbol_name(symbol),
-            Front::EndOfText => b"end of text",
-        }
+        self.expander.leave();
     }
 
     fn raw_stood(&self, raw: Raw) -> &[u8]
@@ -281,6 +293,7 @@ impl Evaluator {
             Raw::Symbol(symbol) => self.acts.symbol_name(symbol),
             Raw::Number => b"number",
             Raw::Text => b"string",
+            Raw::Value => b"value",
             Raw::EndOfText => b"end of text",
         }
     }
@@ -289,7 +302,7 @@ impl Evaluator {
     pub(crate) fn unexpected(&self, wanted: &[u8]) -> Stop
         ensures { IsStop result (refused_front wanted.now self.now) }
     {
-        Stop::unexpected(self.alloc, wanted, self.stood())
+        Stop::unexpected(self.alloc, wanted, self.front.stood(self.acts.table()))
     }
 
     /// The refusal of a raw item where something else was wanted.

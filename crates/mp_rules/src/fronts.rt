@@ -1,22 +1,25 @@
-//! Fronts and raw items: how the next one is got.
+//! Fronts and raw items: how the next one is got, and how calls of macros are answered on the way.
 
-ghost use Rattle.std.specs.Prelude.{◌≡◌, ◌<◌, IfOk};
-ghost use Rattle.mp_values.specs.Outcome.{Yields};
-ghost use Rattle.mp_rules.specs.Fronts.{symbol_front};
-ghost use Rattle.mp_rules.specs.Rules.{NextFront, NextRaw, raw_symbol};
-ghost use Rattle.mp_acts.specs.Counts.{IsWithin};
+ghost use Rattle.std.specs.Prelude.{◌≡◌, ◌<◌, IfOk, map};
+ghost use Rattle.mp_acts.specs.Counts.{IsWithin, nothing};
 ghost use Rattle.mp_acts.specs.State.{symbol_count};
 ghost use Rattle.mp_rules.specs.Machine.{things};
-ghost use Rattle.mp_rules.specs.Reach.{reach_of_front};
-ghost use Rattle.mp_rules.specs.Promises.{Means, UsesSymbol};
+ghost use Rattle.mp_rules.specs.Reach.{reach_of_step};
+ghost use Rattle.mp_rules.specs.Rules.{NextFront, NextRaw, Operand, raw_symbol, advancing};
+ghost use Rattle.mp_rules.specs.Rules as rules;
+ghost use Rattle.mp_rules.specs.Steps as steps;
+ghost use Rattle.mp_rules.specs.Promises.{Means, UsesSymbol, UsesAnswer, Advances, Answers};
 ghost use Rattle.mp_rules.specs.Meaning.{the};
 
 use crate::evaluator::Evaluator;
-use crate::front::{Front, Raw, Taken};
-use mp_values::{Meaning, Stop};
+use crate::front::{Raw, Taken};
+use mp_expand::{Answer, Front, Step, Want};
+use mp_scaled::Shared;
+use mp_values::Stop;
 
 impl Evaluator {
-    /// The next front comes to hand: line ends and file ends are passed over.
+    /// The next front comes to hand: ends of lines and of files are passed over, and macros are called.
+    #[cycle(eval)]
     #[tactic(auto, using(crate::proofs::Cases::next_front_is))]
     pub(crate) fn next_front(&mut self) -> Result<(), Stop>
         ensures { Means NextFront result self.old self.new }
@@ -26,40 +29,56 @@ impl Evaluator {
             return Ok(());
         }
         'items: loop {
-            let taken = Taken::of(self.take()?);
-            let front = match &taken {
-                Taken::Symbol(symbol) => self.symbol_front(*symbol)?,
-                Taken::Number(value) => Front::Number(*value),
-                Taken::Text(bytes) => {
-                    self.see_string(bytes.share()?);
+            match self.advance()? {
+                Step::More => {}
+                Step::Front(front) => {
+                    self.see(front);
                     return Ok(());
                 }
-                Taken::Bad(cause) => return Err(Stop::from(*cause)),
-                Taken::Passed => continue,
-                Taken::Nothing => Front::EndOfText,
-            };
-            self.see(front);
-            return Ok(());
+                Step::Text(bytes) => {
+                    self.see_string(bytes);
+                    return Ok(());
+                }
+                Step::Capsule(value) => {
+                    self.see_value(value);
+                    return Ok(());
+                }
+                Step::Want(want) => self.operand(want)?,
+            }
         }
     }
 
-    /// A symbol as a front; a word that is not built is refused.
-    fn symbol_front(&self, symbol: u32) -> Result<Front, Stop>
-        requires { symbol < symbol_count self.now.acts }
-        ensures exact { Yields result self.now (symbol_front symbol self.now) }
-        ensures within { IfOk result (λ front. IsWithin (reach_of_front front) (things self.now)) }
+    /// What a call asks for, from the next front on, and what it asks for then.
+    #[cycle(eval)]
+    #[tactic(auto, using(crate::proofs::Cases::operand_is))]
+    fn operand(&mut self, first: Want) -> Result<(), Stop>
+        ensures { Means (Operand first) result self.old self.new }
     {
-        match self.acts.symbol_meaning(symbol) {
-            Meaning::Word(word) => Ok(Front::Word(symbol, *word)),
-            Meaning::Unbuilt(word) => Err(Stop::not_built(self.alloc, word.name())),
-            Meaning::NewTag | Meaning::Tag(_) => Ok(Front::Tag(symbol)),
-            Meaning::Internal(k) => Ok(Front::Internal(symbol, *k)),
-            Meaning::Left(pair) => Ok(Front::Left(symbol, *pair)),
-            Meaning::Right(pair) => Ok(Front::Right(symbol, *pair)),
-            Meaning::Macro(m) => Err(Stop::not_built(
-                self.alloc,
-                m.get().level.definition().name(),
-            )),
+        let mut want = first;
+        'operands: loop {
+            self.next_front()?;
+            let answer = self.operand_of(want)?;
+            match self.answer(answer)? {
+                Step::Want(next) => want = next,
+                _ => return Ok(()),
+            }
+        }
+    }
+
+    /// What is answered to a call, with its first front in hand.
+    #[cycle(eval)]
+    fn operand_of(&mut self, want: Want) -> Result<Answer, Stop>
+        ensures { ActsAnswer (rules.operand_of the want) result self.old self.new }
+    {
+        match want {
+            Want::Expression => {
+                let value = self.expression()?;
+                Ok(Answer::Value(Shared::new(self.alloc, value)?))
+            }
+            Want::Suffix => {
+                let parts = self.suffix()?;
+                Ok(Answer::Suffix(self.part_items(&parts)?))
+            }
         }
     }
 
@@ -71,12 +90,9 @@ impl Evaluator {
         'items: loop {
             self.see(Front::EndOfText);
             match Taken::of(self.take()?) {
-                Taken::Symbol(symbol) => return Ok(Raw::Symbol(symbol)),
-                Taken::Number(_) => return Ok(Raw::Number),
-                Taken::Text(_) => return Ok(Raw::Text),
+                Taken::Raw(raw) => return Ok(raw),
                 Taken::Bad(cause) => return Err(Stop::from(cause)),
                 Taken::Passed => {}
-                Taken::Nothing => return Ok(Raw::EndOfText),
             }
         }
     }

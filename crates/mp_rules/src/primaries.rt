@@ -5,15 +5,16 @@ ghost use Rattle.mp_acts.specs.Counts.{IsWithin, greatest};
 ghost use Rattle.mp_acts.specs.Reach.{reach, reach_of_part, reach_of_pair};
 ghost use Rattle.mp_acts.specs.State.{symbol_count, internal_count};
 ghost use Rattle.mp_rules.specs.Machine.{things};
-ghost use Rattle.mp_rules.specs.Rules.{NumberThen, Factor, VariableName, Group, PrimaryInside, Primary, Leading};
-ghost use Rattle.mp_rules.specs.Promises.{Means, ActsValue, ActsSide, GoesOn, UsesValue};
+ghost use Rattle.mp_rules.specs.Rules.{NumberThen, Factor, Group, PrimaryInside, Primary, LeadingInside, Leading};
+ghost use Rattle.mp_rules.specs.Promises.{Means, Acts, ActsValue, ActsSide, UsesValue, UsesVariable};
 ghost use Rattle.mp_rules.specs.Meaning.{the};
 ghost use Rattle.mp_rules.specs.Rules as rules;
 
 use crate::chain_side::ChainSide;
 use crate::evaluator::Evaluator;
-use crate::front::Front;
+use crate::named::Named;
 use mp_acts::Target;
+use mp_expand::Front;
 use mp_values::{Delimiters, Scaled, Secondary, Stop, Unary, Value, Word};
 use mp_vartree::Suffix;
 
@@ -89,28 +90,17 @@ impl Evaluator {
         }
     }
 
-    /// The root of a tag, and the parts behind it.
+    /// A variable, which is read when the front behind its name was got; none where a macro was called in its place, and
+    /// the primary begins anew.
     #[cycle(eval)]
-    #[tactic(auto, using(crate::proofs::Cases::variable_name_is))]
-    fn variable_name(&mut self, symbol: u32) -> Result<(u32, Suffix), Stop>
+    fn variable(&mut self, symbol: u32) -> Result<Option<Value>, Stop>
         requires { symbol < symbol_count self.old.acts }
-        ensures { Means (VariableName symbol) result self.old self.new }
+        ensures { UsesVariable (rules.variable_or_call the symbol) result self.old self.new }
     {
-        let root = self.root_of(symbol)?;
-        self.next_front()?;
-        let parts = self.suffix()?;
-        self.no_call(root, &parts)?;
-        Ok((root, parts))
-    }
-
-    /// A variable, which is read when the front behind its name was got.
-    #[cycle(eval)]
-    fn variable(&mut self, symbol: u32) -> Result<Value, Stop>
-        requires { symbol < symbol_count self.old.acts }
-        ensures { UsesValue (rules.variable the symbol) result self.old self.new }
-    {
-        let (root, parts) = self.variable_name(symbol)?;
-        self.read(symbol, root, parts)
+        match self.variable_name(symbol)? {
+            Named::Variable(root, parts) => Ok(Some(self.read(symbol, root, parts)?)),
+            Named::Called => Ok(None),
+        }
     }
 
     /// An expression in parentheses.
@@ -120,20 +110,18 @@ impl Evaluator {
         ensures { UsesValue (rules.parenthesis the pair) result self.old self.new }
     {
         let value = self.next_expression()?;
-        self.closed(pair, value)
+        self.closed(pair)?;
+        self.next_front()?;
+        Ok(value)
     }
 
     /// The end of an expression in parentheses.
-    fn closed(&mut self, pair: Delimiters, value: Value) -> Result<Value, Stop>
-        requires pair { IsWithin (reach_of_pair pair) (things self.old) }
-        requires value { IsWithin (reach value) (things self.old) }
-        ensures { ActsValue (rules.closed the pair value) result self.old self.new }
+    fn closed(&self, pair: Delimiters) -> Result<(), Stop>
+        requires { IsWithin (reach_of_pair pair) (things self.now) }
+        ensures { Acts (rules.closed pair) result self.now self.now }
     {
         match self.sign() {
-            Front::Right(_, other) if other.left == pair.left && other.right == pair.right => {
-                self.next_front()?;
-                Ok(value)
-            }
+            Front::Right(_, other) if other.left == pair.left && other.right == pair.right => Ok(()),
             _ => Err(self.unexpected(self.acts.symbol_name(pair.right))),
         }
     }
@@ -153,6 +141,7 @@ impl Evaluator {
     }
 
     /// A string, which is read when the front behind it was got.
+    #[cycle(eval)]
     fn string_primary(&mut self) -> Result<Value, Stop>
         ensures { UsesValue (rules.string_primary the) result self.old self.new }
     {
@@ -161,6 +150,17 @@ impl Evaluator {
         self.string_token(bytes)
     }
 
+    /// A value that stands for an expression.
+    #[cycle(eval)]
+    fn value_primary(&mut self) -> Result<Value, Stop>
+        ensures { UsesValue (rules.value_primary the) result self.old self.new }
+    {
+        let value = self.value_in_hand()?;
+        self.next_front()?;
+        Ok(value)
+    }
+
+    #[cycle(eval)]
     fn internal(&mut self, k: u32) -> Result<Value, Stop>
         requires { k < internal_count self.old.acts }
         ensures { UsesValue (rules.internal the k) result self.old self.new }
@@ -204,21 +204,28 @@ impl Evaluator {
         }
     }
 
-    /// What a primary is made of.
+    /// What a primary is made of. Where a macro is called in the place of a variable, it begins anew.
     #[cycle(eval)]
     #[tactic(auto, using(crate::proofs::Cases::primary_inside_is))]
     fn primary_inside(&mut self) -> Result<Value, Stop>
         ensures { Means PrimaryInside result self.old self.new }
     {
-        let sign = self.sign();
-        match &sign {
-            Front::Number(value) => self.number(*value),
-            Front::Text => self.string_primary(),
-            Front::Word(symbol, word) => self.word_primary(*symbol, *word),
-            Front::Tag(symbol) => self.variable(*symbol),
-            Front::Internal(_, k) => self.internal(*k),
-            Front::Left(_, pair) => self.parenthesis(*pair),
-            Front::Right(_, _) | Front::EndOfText => Err(self.unexpected(b"primary")),
+        'calls: loop {
+            let sign = self.sign();
+            match &sign {
+                Front::Number(value) => return self.number(*value),
+                Front::Text => return self.string_primary(),
+                Front::Capsule => return self.value_primary(),
+                Front::Word(symbol, word) => return self.word_primary(*symbol, *word),
+                Front::Tag(symbol) => {
+                    if let Some(value) = self.variable(*symbol)? {
+                        return Ok(value);
+                    }
+                }
+                Front::Internal(_, k) => return self.internal(*k),
+                Front::Left(_, pair) => return self.parenthesis(*pair),
+                Front::Right(_, _) | Front::EndOfText => return Err(self.unexpected(b"primary")),
+            }
         }
     }
 
@@ -258,23 +265,27 @@ impl Evaluator {
         }
     }
 
+    /// What the first primary of a side is made of. Where a macro is called in the place of a variable, it begins anew.
     #[cycle(eval)]
-    #[tactic(auto, using(crate::proofs::ChainLemmas::used_small))]
+    #[tactic(auto, using(crate::proofs::Cases::leading_inside_is, crate::proofs::ChainLemmas::used_small))]
     fn leading_inside(&mut self) -> Result<ChainSide, Stop>
-        ensures { GoesOn (rules.leading_inside the) 0 result self.old self.new }
+        ensures { Means LeadingInside result self.old self.new }
     {
-        match self.sign() {
-            Front::Tag(symbol) => {
-                let (root, name) = self.variable_name(symbol)?;
-                self.variable_side(symbol, root, name)
-            }
-            Front::Internal(_, k) => {
-                self.next_front()?;
-                self.internal_side(k)
-            }
-            _ => {
-                let value = self.primary_inside()?;
-                Ok(ChainSide::Value(value))
+        'calls: loop {
+            match self.sign() {
+                Front::Tag(symbol) => {
+                    if let Named::Variable(root, name) = self.variable_name(symbol)? {
+                        return self.variable_side(symbol, root, name);
+                    }
+                }
+                Front::Internal(_, k) => {
+                    self.next_front()?;
+                    return self.internal_side(k);
+                }
+                _ => {
+                    let value = self.primary_inside()?;
+                    return Ok(ChainSide::Value(value));
+                }
             }
         }
     }

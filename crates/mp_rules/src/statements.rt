@@ -6,7 +6,7 @@ ghost use Rattle.mp_rules.specs.Promises.{Means, Acts};
 ghost use Rattle.mp_rules.specs.Rules as rules;
 
 use crate::evaluator::Evaluator;
-use crate::front::Front;
+use mp_expand::Front;
 use mp_report::SourceError;
 use mp_values::{Kind, Stop, Value, Word};
 
@@ -27,6 +27,7 @@ impl Evaluator {
             }
             Front::Word(_, Word::Definition(word)) => {
                 self.definition(word)?;
+                self.next_front()?;
                 Ok(Value::Vacuous)
             }
             sign => if sign.begins_primary() {

@@ -1,19 +1,22 @@
 //! The parts of names behind a tag: of a variable's name, and of a declared one.
 
-ghost use Rattle.std.specs.Prelude.{◌≡◌, []};
-ghost use Rattle.mp_rules.specs.Promises.{Means, Acts, Uses};
+ghost use Rattle.std.specs.Prelude.{◌≡◌, ◌<◌, []};
+ghost use Rattle.mp_acts.specs.Counts.{IsWithin, greatest};
+ghost use Rattle.mp_acts.specs.Reach.{reach_of_item, reach_of_part};
+ghost use Rattle.mp_acts.specs.State.{symbol_count};
+ghost use Rattle.mp_rules.specs.Machine.{things};
+ghost use Rattle.mp_rules.specs.Promises.{Means, Acts, Uses, ActsPart, UsesName};
 ghost use Rattle.mp_rules.specs.Meaning.{the};
 ghost use Rattle.mp_rules.specs.Rules as rules;
 
 use crate::evaluator::Evaluator;
-use crate::front::Front;
+use crate::named::Named;
+use crate::names::call_arguments;
+use mp_expand::Front;
 use mp_report::{Cap, SourceError};
-use mp_scaled::Listing;
-use mp_values::{Stop, Word};
-use mp_vartree::{Part, Pattern, Shape, Suffix};
-
-/// A name may have so many parts behind its tag.
-pub const PART_LIMIT: u32 = 50;
+use mp_scaled::{Listing, Shared};
+use mp_values::{Level, Macro, Stop, Word};
+use mp_vartree::{PART_LIMIT, Part, Pattern, Shape, Suffix};
 
 impl Evaluator {
     /// Refuses one more part, behind so many, where that would be too many.
@@ -46,24 +49,76 @@ impl Evaluator {
         self.subscript(value)
     }
 
-    /// The parts behind a tag: symbols, numbers, and subscripts in brackets.
+    /// A part of a name, whose front is then used up: a symbol, a number, or a subscript in brackets.
+    #[cycle(eval)]
+    fn part_here(&mut self) -> Result<Option<Part>, Stop>
+        ensures { ActsPart (rules.part_here the) result self.old self.new }
+    {
+        let sign = self.sign();
+        let part = match &sign {
+            Front::Tag(symbol) | Front::Internal(symbol, _) => Part::Sym(*symbol),
+            Front::Number(value) => Part::Sub(value.units()),
+            Front::Word(_, Word::LeftBracket) => Part::Sub(self.bracketed()?),
+            _ => return Ok(None),
+        };
+        self.see(Front::EndOfText);
+        Ok(Some(part))
+    }
+
+    /// The parts of a name from the front in hand on.
     #[cycle(eval)]
     #[tactic(auto, using(crate::proofs::Cases::suffix_is, crate::proofs::Units::passed_on, crate::proofs::ReachLemmas::greatest_none, crate::proofs::ReachLemmas::greatest_push))]
     pub(crate) fn suffix(&mut self) -> Result<Suffix, Stop>
         ensures { Means (rules.Suffix []) result self.old self.new }
     {
         let mut parts = Listing::new(self.alloc);
-        'parts: loop {
-            let sign = self.sign();
-            let part = match &sign {
-                Front::Tag(symbol) | Front::Internal(symbol, _) => Part::Sym(*symbol),
-                Front::Number(value) => Part::Sub(value.units()),
-                Front::Word(_, Word::LeftBracket) => Part::Sub(self.bracketed()?),
-                _ => return Ok(parts),
-            };
+        'parts: while let Some(part) = self.part_here()? {
             self.room_for_part(parts.as_slice().len())?;
             parts.push(part)?;
             self.next_front()?;
+        }
+        Ok(parts)
+    }
+
+    /// A variable's name: the root of a tag, and the parts behind it. A name that is that of a macro calls it at once.
+    #[cycle(eval)]
+    #[tactic(auto, using(crate::proofs::Cases::variable_name_is, crate::proofs::Cases::name_from_is, crate::proofs::Units::passed_on, crate::proofs::ReachLemmas::greatest_none, crate::proofs::ReachLemmas::greatest_push))]
+    pub(crate) fn variable_name(&mut self, symbol: u32) -> Result<Named, Stop>
+        requires { symbol < symbol_count self.old.acts }
+        ensures { Means (rules.VariableName symbol) result self.old self.new }
+    {
+        let root = self.root_of(symbol)?;
+        let mut parts = Listing::new(self.alloc);
+        'parts: loop {
+            if let Some(called) = self.macro_named(root, &parts)? {
+                return self.call_named(symbol, &parts, called);
+            }
+            self.next_front()?;
+            let Some(part) = self.part_here()? else {
+                return Ok(Named::Variable(root, parts));
+            };
+            self.room_for_part(parts.as_slice().len())?;
+            parts.push(part)?;
+        }
+    }
+
+    /// Calls the macro whose name was read; one with `@#` at the end of its name is not built.
+    #[cycle(eval)]
+    #[tactic(auto, using(crate::proofs::NameLemmas::called_within))]
+    fn call_named(&mut self, symbol: u32, parts: &Suffix, called: Shared<Macro>) -> Result<Named, Stop>
+        requires symbol { symbol < symbol_count self.old.acts }
+        requires parts { IsWithin (greatest reach_of_part parts.now) (things self.old) }
+        requires body { IsWithin (greatest reach_of_item called.body) (things self.old) }
+        ensures { UsesName (rules.called_by the symbol parts.now called called.level) result self.old self.new }
+    {
+        match called.get().level {
+            Level::Variable => {
+                let arguments = call_arguments(self.alloc, symbol, parts.as_slice())?;
+                self.call(called, arguments)?;
+                self.next_front()?;
+                Ok(Named::Called)
+            }
+            level => Err(Stop::not_built(self.alloc, level.definition().name())),
         }
     }
 
@@ -77,6 +132,7 @@ impl Evaluator {
     }
 
     /// The parts of a declared name behind its tag: symbols, and `[]` for any subscript.
+    #[cycle(eval)]
     #[tactic(auto, using(crate::proofs::Cases::declared_name_is))]
     pub(crate) fn declared_name(&mut self) -> Result<Pattern, Stop>
         ensures { Means (rules.DeclaredName []) result self.old self.new }

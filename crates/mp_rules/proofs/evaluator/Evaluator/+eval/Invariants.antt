@@ -1,15 +1,33 @@
-use Rattle.std.proofs.Common.{◌≡◌, ◌≤◌, ◌+◌, ◌*◌, [], reverse}
+use Rattle.std.proofs.Common.{◌≡◌, ◌≤◌, ◌+◌, ◌*◌, [], None, reverse}
 use Rattle.mp_acts.specs.Counts.{greatest, IsWithin}
 use Rattle.mp_acts.specs.Reach.{reach, reach_of_part}
 use Rattle.mp_rules.specs.Machine.{coming, left, things}
 use Rattle.mp_rules.specs.Chains.{reach_of_side, reach_of_sides}
 use Rattle.mp_rules.specs.Promises.{used_by_side}
-use Rattle.mp_rules.specs.Rules.{NumberThen, Factor, VariableName, Suffix, Group, PrimaryInside, Primary, Leading, SecondaryRest, Secondary, TertiaryRest, ExpressionFrom, Expression, ChainSide, ChainRest, Chain, ShowList, CommandRest, Statement, GroupStatements}
+use Rattle.mp_rules.specs.Rules.{NextFront, Operand, NumberThen, Factor, VariableName, NameFrom, Suffix, Group, PrimaryInside, Primary, LeadingInside, Leading, SecondaryRest, Secondary, TertiaryRest, ExpressionFrom, Expression, ChainSide, ChainRest, Chain, ShowList, SymbolList, DeclaredName, TypeList, CommandRest, Statement, GroupStatements}
 use Rattle.mp_rules.specs.Meaning.{the}
 use Rattle.mp_rules.proofs.Ranks.{measure}
 use Rattle.mp_rules.proofs.evaluator.Evaluator.+eval.Given as goal
 
 -- twice the measure of what is asked; a function between two rules has an odd one
+
+abbrev pub decreases-next_front : goal.decreases-next_front
+decreases-next_front l = 2 * measure NextFront l.self.now
+
+abbrev pub decreases-operand : goal.decreases-operand
+decreases-operand l = 2 * measure (Operand l.first) l.self.now
+
+abbrev pub decreases-symbol_list : goal.decreases-symbol_list
+decreases-symbol_list l = 2 * measure (SymbolList l.command) l.self.now
+
+abbrev pub decreases-declared_name : goal.decreases-declared_name
+decreases-declared_name l = 2 * measure (DeclaredName []) l.self.now
+
+abbrev pub decreases-type_list : goal.decreases-type_list
+decreases-type_list l = 2 * measure (TypeList l.kind) l.self.now
+
+abbrev pub decreases-leading_inside : goal.decreases-leading_inside
+decreases-leading_inside l = 2 * measure LeadingInside l.self.now
 
 abbrev pub decreases-number_then : goal.decreases-number_then
 decreases-number_then l = 2 * measure (NumberThen l.value) l.self.now
@@ -83,6 +101,24 @@ decreases-variable l = 2 * (64 * coming l.self.now + 2) + 1
 abbrev pub decreases-parenthesis : goal.decreases-parenthesis
 decreases-parenthesis l = 2 * (64 * coming l.self.now + 9) + 2
 
+abbrev pub decreases-operand_of : goal.decreases-operand_of
+decreases-operand_of l = 2 * (64 * left l.self.now + 9) + 1
+
+abbrev pub decreases-part_here : goal.decreases-part_here
+decreases-part_here l = 2 * (64 * left l.self.now) + 1
+
+abbrev pub decreases-call_named : goal.decreases-call_named
+decreases-call_named l = 2 * (64 * coming l.self.now) + 1
+
+abbrev pub decreases-string_primary : goal.decreases-string_primary
+decreases-string_primary l = 2 * (64 * coming l.self.now) + 1
+
+abbrev pub decreases-value_primary : goal.decreases-value_primary
+decreases-value_primary l = 2 * (64 * coming l.self.now) + 1
+
+abbrev pub decreases-internal : goal.decreases-internal
+decreases-internal l = 2 * (64 * coming l.self.now) + 1
+
 abbrev pub decreases-str_primary : goal.decreases-str_primary
 decreases-str_primary l = 2 * (64 * coming l.self.now + 1) + 1
 
@@ -91,9 +127,6 @@ decreases-applied l = 2 * (64 * coming l.self.now + 4) + 2
 
 abbrev pub decreases-word_primary : goal.decreases-word_primary
 decreases-word_primary l = 2 * (64 * left l.self.now + 2) + 1
-
-abbrev pub decreases-leading_inside : goal.decreases-leading_inside
-decreases-leading_inside l = 2 * (64 * left l.self.now + 3) + 1
 
 abbrev pub decreases-bracketed : goal.decreases-bracketed
 decreases-bracketed l = 2 * (64 * coming l.self.now + 9) + 2
@@ -111,7 +144,7 @@ abbrev pub invariant-secondary_rest-primaries : goal.invariant-secondary_rest-pr
 invariant-secondary_rest-primaries l = record {
   leads : the (SecondaryRest l.fn.left) l.fn.self ≡ the (SecondaryRest l.so_far) l.self;
   went : left l.self ≤ left l.fn.self;
-  kept : l.self.budget ≡ l.fn.self.budget;
+  kept : l.self.expander.budget ≡ l.fn.self.expander.budget;
   files : l.self.sources ≡ l.fn.self.sources;
   grown : IsWithin (things l.fn.self) (things l.self);
   within : IsWithin (reach l.so_far) (things l.self);
@@ -124,7 +157,7 @@ abbrev pub invariant-tertiary_rest-secondaries : goal.invariant-tertiary_rest-se
 invariant-tertiary_rest-secondaries l = record {
   leads : the (TertiaryRest l.fn.left) l.fn.self ≡ the (TertiaryRest l.so_far) l.self;
   went : left l.self ≤ left l.fn.self;
-  kept : l.self.budget ≡ l.fn.self.budget;
+  kept : l.self.expander.budget ≡ l.fn.self.expander.budget;
   files : l.self.sources ≡ l.fn.self.sources;
   grown : IsWithin (things l.fn.self) (things l.self);
   within : IsWithin (reach l.so_far) (things l.self);
@@ -137,7 +170,7 @@ abbrev pub invariant-chain-sides : goal.invariant-chain-sides
 invariant-chain-sides l = record {
   leads : the Chain l.fn.self ≡ the (ChainRest (reverse l.before.items) l.last) l.self;
   went : left l.self + used_by_side l.last ≤ left l.fn.self;
-  kept : l.self.budget ≡ l.fn.self.budget;
+  kept : l.self.expander.budget ≡ l.fn.self.expander.budget;
   files : l.self.sources ≡ l.fn.self.sources;
   grown : IsWithin (things l.fn.self) (things l.self);
   within : IsWithin (reach_of_side l.last) (things l.self);
@@ -151,7 +184,7 @@ abbrev pub invariant-show_list-expressions : goal.invariant-show_list-expression
 invariant-show_list-expressions l = record {
   leads : the ShowList l.fn.self ≡ the ShowList l.self;
   went : coming l.self ≤ coming l.fn.self;
-  kept : l.self.budget ≡ l.fn.self.budget;
+  kept : l.self.expander.budget ≡ l.fn.self.expander.budget;
   files : l.self.sources ≡ l.fn.self.sources;
   grown : IsWithin (things l.fn.self) (things l.self);
 }
@@ -163,7 +196,7 @@ abbrev pub invariant-group_statements-statements : goal.invariant-group_statemen
 invariant-group_statements-statements l = record {
   leads : the GroupStatements l.fn.self ≡ the GroupStatements l.self;
   went : left l.self ≤ left l.fn.self;
-  kept : l.self.budget ≡ l.fn.self.budget;
+  kept : l.self.expander.budget ≡ l.fn.self.expander.budget;
   files : l.self.sources ≡ l.fn.self.sources;
   grown : IsWithin (things l.fn.self) (things l.self);
 }
@@ -175,7 +208,7 @@ abbrev pub invariant-suffix-parts : goal.invariant-suffix-parts
 invariant-suffix-parts l = record {
   leads : the (Suffix []) l.fn.self ≡ the (Suffix l.parts) l.self;
   went : left l.self ≤ left l.fn.self;
-  kept : l.self.budget ≡ l.fn.self.budget;
+  kept : l.self.expander.budget ≡ l.fn.self.expander.budget;
   files : l.self.sources ≡ l.fn.self.sources;
   grown : IsWithin (things l.fn.self) (things l.self);
   within : IsWithin (greatest reach_of_part l.parts) (things l.self);
@@ -183,3 +216,101 @@ invariant-suffix-parts l = record {
 
 abbrev pub decreases-suffix-parts : goal.decreases-suffix-parts
 decreases-suffix-parts l = left l.self
+
+abbrev pub invariant-next_front-items : goal.invariant-next_front-items
+invariant-next_front-items l = record {
+  leads : the NextFront l.fn.self ≡ the NextFront l.self;
+  went : coming l.self ≤ coming l.fn.self;
+  kept : l.self.expander.budget ≡ l.fn.self.expander.budget;
+  files : l.self.sources ≡ l.fn.self.sources;
+  grown : IsWithin (things l.fn.self) (things l.self);
+  free : l.self.held ≡ None;
+}
+
+abbrev pub decreases-next_front-items : goal.decreases-next_front-items
+decreases-next_front-items l = coming l.self
+
+abbrev pub invariant-operand-operands : goal.invariant-operand-operands
+invariant-operand-operands l = record {
+  leads : the (Operand l.fn.first) l.fn.self ≡ the (Operand l.want) l.self;
+  went : coming l.self ≤ coming l.fn.self;
+  kept : l.self.expander.budget ≡ l.fn.self.expander.budget;
+  files : l.self.sources ≡ l.fn.self.sources;
+  grown : IsWithin (things l.fn.self) (things l.self);
+}
+
+abbrev pub decreases-operand-operands : goal.decreases-operand-operands
+decreases-operand-operands l = coming l.self
+
+abbrev pub invariant-variable_name-parts : goal.invariant-variable_name-parts
+invariant-variable_name-parts l = record {
+  leads : the (VariableName l.fn.symbol) l.fn.self ≡ the (NameFrom l.symbol l.root l.parts) l.self;
+  went : coming l.self ≤ coming l.fn.self;
+  kept : l.self.expander.budget ≡ l.fn.self.expander.budget;
+  files : l.self.sources ≡ l.fn.self.sources;
+  grown : IsWithin (things l.fn.self) (things l.self);
+  within : IsWithin (greatest reach_of_part l.parts) (things l.self);
+}
+
+abbrev pub decreases-variable_name-parts : goal.decreases-variable_name-parts
+decreases-variable_name-parts l = coming l.self
+
+abbrev pub invariant-primary_inside-calls : goal.invariant-primary_inside-calls
+invariant-primary_inside-calls l = record {
+  leads : the PrimaryInside l.fn.self ≡ the PrimaryInside l.self;
+  went : left l.self ≤ left l.fn.self;
+  kept : l.self.expander.budget ≡ l.fn.self.expander.budget;
+  files : l.self.sources ≡ l.fn.self.sources;
+  grown : IsWithin (things l.fn.self) (things l.self);
+}
+
+abbrev pub decreases-primary_inside-calls : goal.decreases-primary_inside-calls
+decreases-primary_inside-calls l = left l.self
+
+abbrev pub invariant-leading_inside-calls : goal.invariant-leading_inside-calls
+invariant-leading_inside-calls l = record {
+  leads : the LeadingInside l.fn.self ≡ the LeadingInside l.self;
+  went : left l.self ≤ left l.fn.self;
+  kept : l.self.expander.budget ≡ l.fn.self.expander.budget;
+  files : l.self.sources ≡ l.fn.self.sources;
+  grown : IsWithin (things l.fn.self) (things l.self);
+}
+
+abbrev pub decreases-leading_inside-calls : goal.decreases-leading_inside-calls
+decreases-leading_inside-calls l = left l.self
+
+abbrev pub invariant-symbol_list-symbols : goal.invariant-symbol_list-symbols
+invariant-symbol_list-symbols l = record {
+  leads : the (SymbolList l.fn.command) l.fn.self ≡ the (SymbolList l.command) l.self;
+  went : coming l.self ≤ coming l.fn.self;
+  kept : l.self.expander.budget ≡ l.fn.self.expander.budget;
+  files : l.self.sources ≡ l.fn.self.sources;
+  grown : IsWithin (things l.fn.self) (things l.self);
+}
+
+abbrev pub decreases-symbol_list-symbols : goal.decreases-symbol_list-symbols
+decreases-symbol_list-symbols l = coming l.self
+
+abbrev pub invariant-type_list-names : goal.invariant-type_list-names
+invariant-type_list-names l = record {
+  leads : the (TypeList l.fn.kind) l.fn.self ≡ the (TypeList l.kind) l.self;
+  went : coming l.self ≤ coming l.fn.self;
+  kept : l.self.expander.budget ≡ l.fn.self.expander.budget;
+  files : l.self.sources ≡ l.fn.self.sources;
+  grown : IsWithin (things l.fn.self) (things l.self);
+}
+
+abbrev pub decreases-type_list-names : goal.decreases-type_list-names
+decreases-type_list-names l = coming l.self
+
+abbrev pub invariant-declared_name-parts : goal.invariant-declared_name-parts
+invariant-declared_name-parts l = record {
+  leads : the (DeclaredName []) l.fn.self ≡ the (DeclaredName l.parts) l.self;
+  went : left l.self ≤ left l.fn.self;
+  kept : l.self.expander.budget ≡ l.fn.self.expander.budget;
+  files : l.self.sources ≡ l.fn.self.sources;
+  grown : IsWithin (things l.fn.self) (things l.self);
+}
+
+abbrev pub decreases-declared_name-parts : goal.decreases-declared_name-parts
+decreases-declared_name-parts l = left l.self

@@ -9,7 +9,7 @@ abbrev pub invariant-items : goal.invariant-items
 invariant-items l = record {
   leads : the NextRaw l.fn.self ≡ the NextRaw l.self;
   went : coming l.self ≤ coming l.fn.self;
-  kept : l.self.budget ≡ l.fn.self.budget;
+  kept : l.self.expander.budget ≡ l.fn.self.expander.budget;
   files : l.self.sources ≡ l.fn.self.sources;
   grown : IsWithin (things l.fn.self) (things l.self);
 }

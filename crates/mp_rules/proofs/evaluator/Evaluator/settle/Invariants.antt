@@ -10,7 +10,7 @@ abbrev pub invariant-sides : goal.invariant-sides
 invariant-sides l = record {
   leads : acting (settle (reverse l.fn.sides.items) l.value) l.fn.self ≡ acting (settle (reverse l.left.items) l.value) l.self;
   went : left l.self ≤ left l.fn.self;
-  kept : l.self.budget ≡ l.fn.self.budget;
+  kept : l.self.expander.budget ≡ l.fn.self.expander.budget;
   files : l.self.sources ≡ l.fn.self.sources;
   grown : IsWithin (things l.fn.self) (things l.self);
   within : IsWithin (reach_of_sides (reverse l.left.items)) (things l.self);

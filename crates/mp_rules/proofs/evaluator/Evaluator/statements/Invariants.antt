@@ -9,7 +9,7 @@ abbrev pub invariant-statements : goal.invariant-statements
 invariant-statements l = record {
   leads : the Statements l.fn.self ≡ the Statements l.self;
   went : left l.self ≤ left l.fn.self;
-  kept : l.self.budget ≡ l.fn.self.budget;
+  kept : l.self.expander.budget ≡ l.fn.self.expander.budget;
   files : l.self.sources ≡ l.fn.self.sources;
   grown : IsWithin (things l.fn.self) (things l.self);
 }
