@@ -7,6 +7,7 @@ use Rattle.mp_values.specs.Outcome.{◌>>=◌, change}
 use Rattle.mp_values.specs.Refusals.{not_built}
 use Rattle.mp_files.specs.declared.outside.Contents.TheVariants.{Here}
 use Rattle.mp_report.specs.declared.error.SourceError.TheVariants as error
+use Rattle.mp_expand.specs.Expansion.{Expansion}
 use Rattle.mp_rules.specs.Machine.{Machine, Outcome}
 use Rattle.mp_rules.specs.Meaning.{the}
 use Rattle.mp_rules.specs.Starts.{start_on, whole}
@@ -19,7 +20,7 @@ use Rattle.mp_eval.specs.declared.outcome.Run.{Run}
 use Rattle.mp_eval.specs.declared.outcome.RunEnd.TheVariants as ends
 use Rattle.mp_eval.specs.declared.running.TheConstants.{LONGEST_TEXT}
 use Rattle.mp_eval.specs.Gives.{IsSpent}
-use Rattle.mp_eval.specs.Run.{room_by, read_to_end, put_file, put_prelude, no_place}
+use Rattle.mp_eval.specs.Run.{room_by, read_to_end, unread, put_file, put_prelude, no_place}
 use Rattle.mp_eval.specs.Readings.{RanAs, IsPut, IsPreluded, asked_on, begun_on, only, unbegun_run}
 
 fits : (n : ℕ) → n ≤ LONGEST_TEXT → nat_le n LONGEST_TEXT ≡ true
@@ -48,7 +49,7 @@ same_asked : (prelude bytes : List ℕ) (s : Machine) → (put_prelude prelude (
 same_asked [] bytes s = refl
 same_asked (b ∷ prelude) bytes s = refl
 
-same_budget : (prelude bytes : List ℕ) (s : Machine) → (put_prelude prelude (put_file 1 bytes s)).budget ≡ s.budget
+same_budget : (prelude bytes : List ℕ) (s : Machine) → (put_prelude prelude (put_file 1 bytes s)).expander.budget ≡ s.expander.budget
 same_budget [] bytes s = refl
 same_budget (b ∷ prelude) bytes s = refl
 
@@ -83,11 +84,13 @@ short_ran prelude name bytes budget run short ran =
     })
 
 -- the start of a text, by what was put in front of nothing
-pub begins : (kept : List Kept) (sources : List Kept) (prelude bytes read : List ℕ) (budget : ℕ) (first middle last : State) (nothing text more : List Pending) (place : Place) (m : Machine)
-    → first ≡ first_state → nothing ≡ [] → read ≡ bytes → kept ≡ sources → IsPut 1 read first nothing middle text → IsPreluded prelude middle text last more → place ≡ no_place
-    → m ≡ start_on kept more place last budget → m ≡ begun_on sources prelude bytes budget
-begins kept sources [] bytes read budget first middle last nothing text more place m a n r k b c d e = rw (e, d, c.0, c.1, b.1, b.0, a, n, r, k) refl
-begins kept sources (byte ∷ prelude) bytes read budget first middle last nothing text more place m a n r k b c d e = rw (e, d, c.1, c.0, b.1, b.0, a, n, r, k) refl
+pub begins : (kept : List Kept) (sources : List Kept) (prelude bytes read : List ℕ) (budget : ℕ) (first middle last : State) (text more : List Pending) (none one both : Expansion) (m : Machine)
+    → first ≡ first_state → none ≡ unread budget → read ≡ bytes → kept ≡ sources
+    → IsPut 1 read first none.text middle text → one ≡ record none { text = text }
+    → IsPreluded prelude middle one.text last more → both ≡ record one { text = more }
+    → m ≡ start_on kept both last → m ≡ begun_on sources prelude bytes budget
+begins kept sources [] bytes read budget first middle last text more none one both m a n r k b c d e f = rw (f, e, d.1, d.0, c, b.1, b.0, a, n, r, k) refl
+begins kept sources (byte ∷ prelude) bytes read budget first middle last text more none one both m a n r k b c d e f = rw (f, e, d.1, d.0, c, b.1, b.0, a, n, r, k) refl
 
 -- what was read of a text, if memory was found
 pub short_result : (prelude name bytes : List ℕ) (budget : ℕ) (result : Result Run NoMemory) (begun : Machine) → length bytes ≤ LONGEST_TEXT
@@ -99,8 +102,8 @@ short_result prelude name bytes budget (Err e) begun short is ran = tt
 
 pub within_result : (prelude name bytes : List ℕ) (budget : ℕ) (result : Result Run NoMemory) (begun : Machine)
     → begun ≡ begun_on (only name (Here bytes)) prelude bytes budget
-    → IfOk result (λ run. run.steps ≤ begun.budget) → IfOk result (λ run. run.steps ≤ budget)
+    → IfOk result (λ run. run.steps ≤ begun.expander.budget) → IfOk result (λ run. run.steps ≤ budget)
 within_result prelude name bytes budget (Ok run) begun is within =
-    let same : begun.budget ≡ budget = ap (λ (m : Machine). m.budget) is ∙ same_budget prelude bytes (asked_on (only name (Here bytes)) budget) in
+    let same : begun.expander.budget ≡ budget = ap (λ (m : Machine). m.expander.budget) is ∙ same_budget prelude bytes (asked_on (only name (Here bytes)) budget) in
     subst (λ (b : ℕ). run.steps ≤ b) same within
 within_result prelude name bytes budget (Err e) begun is within = tt

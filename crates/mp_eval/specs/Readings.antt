@@ -16,7 +16,7 @@ use Rattle.mp_rules.specs.Starts.{start_on}
 use Rattle.mp_eval.specs.declared.outcome.Run.{Run}
 use Rattle.mp_eval.specs.declared.outcome.RunEnd.{RunEnd}
 use Rattle.mp_eval.specs.declared.outcome.RunEnd.TheVariants as ends
-use Rattle.mp_eval.specs.Run.{Ending, Stopped, course_of, no_place, put_file, put_prelude}
+use Rattle.mp_eval.specs.Run.{Ending, Stopped, course_of, no_place, unread, put_file, put_prelude}
 use Rattle.mp_eval.specs.Gives.{run_end_of, IsSpent}
 
 -- no source was asked for that is not there to read
@@ -26,7 +26,7 @@ IsRead ending = Unit {0}
 
 -- before the text of the one source, which was asked for
 abbrev pub asked_on : List Kept → ℕ → Machine
-asked_on sources budget = start_on sources [] no_place first_state budget
+asked_on sources budget = start_on sources (unread budget) first_state
 
 -- at the start of its text, behind a prelude
 abbrev pub begun_on : List Kept → List ℕ → List ℕ → ℕ → Machine
@@ -43,7 +43,7 @@ pub record RanAs (run : Run) (outcome : Outcome (Unit {0})) (start : Machine) : 
   pub sources : run.sources ≡ start.sources
   pub asked : (course_of outcome).asked ≡ start.asked
   pub read : IsRead (course_of outcome).ending
-  pub spent : IsSpent run.end run.steps start.budget
+  pub spent : IsSpent run.end run.steps start.expander.budget
 
 -- the state and the text after a file was put in front
 abbrev pub IsPut : ℕ → List ℕ → State → List Pending → State → List Pending → Type 0

@@ -10,6 +10,7 @@ use Rattle.mp_acts.specs.State.{made_unknowns, accepted_equations}
 use Rattle.mp_acts.specs.Start.{first_state}
 use Rattle.mp_acts.specs.Tokens.{with_file}
 use Rattle.mp_input.specs.Lines.{items_pending}
+use Rattle.mp_expand.specs.Expansion.{Expansion}
 use Rattle.mp_rules.specs.Machine.{Machine, Outcome, Rule}
 use Rattle.mp_rules.specs.Meaning.{the}
 use Rattle.mp_rules.specs.Starts.{start_on, whole}
@@ -38,7 +39,8 @@ pub record Course : Type 0 where
 abbrev pub put_file : ℕ → List ℕ → Machine → Machine
 put_file number bytes s =
     let acts = with_file s.acts bytes in
-    record s { text = items_pending (file_items number (tokens.tokens_in acts.symbols.names (tokens.file_items bytes))) ++ s.text; acts = acts }
+    let items = items_pending (file_items number (tokens.tokens_in acts.symbols.names (tokens.file_items bytes))) in
+    record s { expander = record s.expander { text = items ++ s.expander.text }; acts = acts }
 
 -- what is loaded before a source, as file 0; nothing of an empty prelude stands in the text
 abbrev pub put_prelude : List ℕ → Machine → Machine
@@ -69,15 +71,19 @@ main_run prelude name = do
 abbrev pub no_place : Place
 no_place = record { file = 0; line = 0 }
 
+-- a text of which nothing is there yet
+abbrev pub unread : ℕ → Expansion
+unread budget = record { text = []; last = no_place; steps = 0; budget = budget; nesting = 0; requests = [] }
+
 -- before anything is asked for or read
 abbrev pub first_machine : List Kept → ℕ → Machine
-first_machine sources budget = record (start_on sources [] no_place first_state budget) { asked = [] }
+first_machine sources budget = record (start_on sources (unread budget) first_state) { asked = [] }
 
 abbrev pub course_to : Machine → Ending → Course
 course_to s ending = record {
   lines = s.acts.lines;
   figures = [];
-  steps = s.steps;
+  steps = s.expander.steps;
   unknowns = made_unknowns s.acts;
   equations = accepted_equations s.acts;
   asked = s.asked;

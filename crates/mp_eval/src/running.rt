@@ -4,7 +4,7 @@ ghost use Rattle.std.specs.Prelude.{◌≡◌, ◌≤◌, ◌+◌, ◌++◌, ◌
 ghost use Rattle.mp_acts.specs.Counts.{IsWithin};
 ghost use Rattle.mp_acts.specs.State.{counts};
 ghost use Rattle.mp_rules.specs.Meaning.{the};
-ghost use Rattle.mp_rules.specs.Reach.{reach_of_text};
+ghost use Rattle.mp_rules.specs.Reach.{reach_of_expansion};
 ghost use Rattle.mp_rules.specs.Starts.{whole};
 ghost use Rattle.mp_eval.specs.Gives.{RunGives, starved_run};
 ghost use Rattle.mp_eval.specs.Readings.{RanAs, IsPut, IsPreluded, asked_on, begun_on, only, unbegun_run, no_such_file as absent_end};
@@ -13,8 +13,8 @@ ghost use Rattle.mp_eval.specs.Run.{read_to_end};
 use crate::name::can_be_asked;
 use crate::outcome::{Run, RunEnd};
 use mp_acts::State;
+use mp_expand::Expander;
 use mp_files::{Contents, Fetched, Files, Kept, Sources};
-use mp_input::Input;
 use mp_report::{Place, SourceError};
 use mp_rules::{Evaluator, Finished};
 use mp_scaled::{Bytes, Listing, NoMemory, Shared};
@@ -30,38 +30,34 @@ pub const LONGEST_TEXT: usize = 65536;
 fn put_file(
     alloc: Global,
     acts: &mut State,
-    input: &mut Input,
+    expander: &mut Expander,
     number: u32,
     bytes: &[u8],
 ) -> Result<(), NoMemory>
-    requires spare { 1 ≤ input.old.spare }
-    requires within { IsWithin (reach_of_text input.old.text) (counts acts.old) }
-    ensures put { OnOk result (IsPut number bytes.now acts.old input.old.text acts.new input.new.text) }
-    ensures within { OnOk result (IsWithin (reach_of_text input.new.text) (counts acts.new)) }
-    ensures last { input.new.last ≡ input.old.last }
-    ensures spare { OnOk result (input.old.spare ≤ input.new.spare + 1) }
+    requires { IsWithin (reach_of_expansion expander.old) (counts acts.old) }
+    ensures put { OnOk result (IsPut number bytes.now acts.old expander.old.text acts.new expander.new.text) }
+    ensures rest { OnOk result (expander.new ≡ record expander.old { text = expander.new.text }) }
+    ensures within { OnOk result (IsWithin (reach_of_expansion expander.new) (counts acts.new)) }
 {
     let tokens = acts.tokens_of_file(bytes)?;
-    input.push_file(number, Shared::new(alloc, tokens)?);
-    Ok(())
+    expander.start(number, Shared::new(alloc, tokens)?)
 }
 
 /// The same of what is read before the main file; an empty prelude has no items at all.
 fn put_prelude(
     alloc: Global,
     acts: &mut State,
-    input: &mut Input,
+    expander: &mut Expander,
     bytes: &[u8],
 ) -> Result<(), NoMemory>
-    requires spare { 1 ≤ input.old.spare }
-    requires within { IsWithin (reach_of_text input.old.text) (counts acts.old) }
-    ensures put { OnOk result (IsPreluded bytes.now acts.old input.old.text acts.new input.new.text) }
-    ensures within { OnOk result (IsWithin (reach_of_text input.new.text) (counts acts.new)) }
-    ensures last { input.new.last ≡ input.old.last }
+    requires { IsWithin (reach_of_expansion expander.old) (counts acts.old) }
+    ensures put { OnOk result (IsPreluded bytes.now acts.old expander.old.text acts.new expander.new.text) }
+    ensures rest { OnOk result (expander.new ≡ record expander.old { text = expander.new.text }) }
+    ensures within { OnOk result (IsWithin (reach_of_expansion expander.new) (counts acts.new)) }
 {
     match bytes {
         [] => Ok(()),
-        [_, ..] => put_file(alloc, acts, input, 0, bytes),
+        [_, ..] => put_file(alloc, acts, expander, 0, bytes),
     }
 }
 
@@ -76,18 +72,17 @@ fn evaluator_of(
     ensures { IfOk result (λ e. e ≡ begun_on (only name.now (Contents.Here bytes)) prelude.now bytes budget) }
 {
     let mut acts = State::new(alloc)?;
-    let mut input = Input::new(alloc);
-    input.reserve(2)?;
-    put_file(alloc, &mut acts, &mut input, 1, bytes.as_slice())?;
-    put_prelude(alloc, &mut acts, &mut input, prelude)?;
+    let mut expander = Expander::new(alloc, budget);
+    put_file(alloc, &mut acts, &mut expander, 1, bytes.as_slice())?;
+    put_prelude(alloc, &mut acts, &mut expander, prelude)?;
     let sources = one_source(alloc, name, Contents::Here(bytes))?;
-    Ok(Evaluator::new(alloc, sources, input, acts, budget))
+    Ok(Evaluator::new(alloc, sources, expander, acts))
 }
 
 /// Reads a text to its end.
 fn run_begun(alloc: Global, begun: Evaluator) -> Result<Run, NoMemory>
     ensures ran { IfOk result (λ run. RanAs run (whole the begun) begun) }
-    ensures within { IfOk result (λ run. run.steps ≤ begun.budget) }
+    ensures within { IfOk result (λ run. run.steps ≤ begun.expander.budget) }
 {
     let mut evaluator = begun;
     let end = match evaluator.run() {
