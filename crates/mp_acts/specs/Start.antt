@@ -19,8 +19,7 @@ drawing_words =
 -- conditions, loops and files
 abbrev pub control_words : List (List ℕ)
 control_words =
-    codes "\\" ∷ codes "if" ∷
-    codes "elseif" ∷ codes "else" ∷ codes "fi" ∷ codes "for" ∷ codes "forsuffixes" ∷ codes "forever" ∷
+    codes "if" ∷ codes "elseif" ∷ codes "else" ∷ codes "fi" ∷ codes "for" ∷ codes "forsuffixes" ∷ codes "forever" ∷
     codes "endfor" ∷ codes "exitif" ∷ codes "step" ∷ codes "until" ∷ codes "input" ∷ codes "endinput" ∷
     codes "scantokens" ∷ codes "expandafter" ∷ codes ":" ∷ []
 

@@ -141,8 +141,7 @@ const DRAWING_WORDS: [&[u8]; 20] = [
 ];
 
 /// Conditions, loops and files.
-const CONTROL_WORDS: [&[u8]; 17] = [
-    b"\\",
+const CONTROL_WORDS: [&[u8]; 16] = [
     b"if",
     b"elseif",
     b"else",

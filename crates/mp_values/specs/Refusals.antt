@@ -36,8 +36,12 @@ unbuilt word = error.NotBuilt word
 abbrev pub not_built : List ℕ → Cause
 not_built word = Refused (unbuilt word)
 
+-- what stood where something else was wanted
+abbrev pub unexpected_error : List ℕ → List ℕ → SourceError
+unexpected_error wanted stood = error.Unexpected wanted stood
+
 abbrev pub unexpected : List ℕ → List ℕ → Cause
-unexpected wanted stood = Refused (error.Unexpected wanted stood)
+unexpected wanted stood = Refused (unexpected_error wanted stood)
 
 -- what an operator or a word does not allow
 abbrev pub wrong_type : List ℕ → SourceError

@@ -118,6 +118,7 @@ name_of_word word.Enddef = codes "enddef"
 name_of_word (word.Parameter p) = name_of_parameter p
 name_of_word word.Of = codes "of"
 name_of_word (word.CalledName p) = name_of_called_name p
+name_of_word word.Backslash = codes "\\"
 
 -- the words, in the order in which they get their numbers; those of groups are the first
 abbrev pub words : List Word
@@ -137,7 +138,7 @@ words =
     ∷ word.Parameter parameter.Primary ∷ word.Parameter parameter.Secondary ∷ word.Parameter parameter.Tertiary
     ∷ word.Parameter parameter.Expr ∷ word.Parameter parameter.Suffix ∷ word.Parameter parameter.Text ∷ word.Of
     ∷ word.CalledName called_name.Before ∷ word.CalledName called_name.Last ∷ word.CalledName called_name.Behind
-    ∷ []
+    ∷ word.Backslash ∷ []
 
 -- the operator that a word is before a primary, if it is one
 abbrev pub unary_of : Word → Option Unary

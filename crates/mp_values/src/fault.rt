@@ -4,11 +4,12 @@ ghost use Rattle.std.specs.Prelude.{◌≡◌, IfOk, IfErr};
 ghost use Rattle.mp_values.specs.declared.fault.Fault.TheVariants.{Refused as WasRefused, NoMemory as WantOfMemory};
 ghost use Rattle.mp_values.specs.Outcome.{IsFault};
 ghost use Rattle.mp_values.specs.Refusals as refusals;
-ghost use Rattle.mp_values.specs.Refusals.{error_of_arith, error_of_form};
+ghost use Rattle.mp_values.specs.Refusals.{error_of_arith, error_of_form, error_of_token};
 
 use mp_forms::FormFault;
 use mp_report::SourceError;
 use mp_scaled::{Arith, Bytes, NoMemory};
+use mp_tokens::BadToken;
 use std::alloc::Global;
 
 /// Why an act of a statement or an operator is not done. (A run has more causes to stop: [`crate::Stop`].)
@@ -51,6 +52,18 @@ impl From<FormFault> for Fault {
     }
 }
 
+impl From<BadToken> for Fault {
+    ghost from_gives = { λ cause made. made ≡ WasRefused (error_of_token cause) };
+
+    fn from(cause: BadToken) -> Fault {
+        Fault::Refused(match cause {
+            BadToken::Character(byte) => SourceError::BadCharacter(u32::from(byte)),
+            BadToken::Unfinished => SourceError::UnfinishedString,
+            BadToken::Enormous => SourceError::EnormousNumber,
+        })
+    }
+}
+
 /// A refusal, where there was memory for what it keeps.
 fn refused(error: Result<SourceError, NoMemory>) -> Fault
     ensures made { IfOk error (λ e. result ≡ WasRefused e) }
@@ -82,5 +95,15 @@ impl Fault {
         ensures { IsFault result (refusals.not_known op.now) }
     {
         refused(Bytes::copy_of(alloc, op).map(SourceError::NotKnown))
+    }
+
+    /// The refusal of what stood where something else was wanted.
+    pub fn unexpected(alloc: Global, wanted: &[u8], stood: &[u8]) -> Fault
+        ensures { IsFault result (refusals.unexpected_error wanted.now stood.now) }
+    {
+        match (Bytes::copy_of(alloc, wanted), Bytes::copy_of(alloc, stood)) {
+            (Ok(wanted), Ok(stood)) => Fault::Refused(SourceError::Unexpected(wanted, stood)),
+            _ => Fault::NoMemory,
+        }
     }
 }

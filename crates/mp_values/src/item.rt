@@ -13,7 +13,7 @@ use mp_tokens::{BadToken, Token};
 pub enum Item {
     /// The symbol of that number in the table of names.
     Symbol(u32),
-    /// A number that is not negative.
+    /// A number; that of a subscript may be negative.
     Number(Scaled),
     /// A string, by its bytes.
     Text(SharedSlice<u8>),

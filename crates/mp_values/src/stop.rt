@@ -48,11 +48,7 @@ impl From<BadToken> for Stop {
     ghost from_gives = { λ cause made. made ≡ WasRefused (error_of_token cause) };
 
     fn from(cause: BadToken) -> Stop {
-        Stop::Refused(match cause {
-            BadToken::Character(byte) => SourceError::BadCharacter(u32::from(byte)),
-            BadToken::Unfinished => SourceError::UnfinishedString,
-            BadToken::Enormous => SourceError::EnormousNumber,
-        })
+        Stop::from(Fault::from(cause))
     }
 }
 
@@ -61,19 +57,13 @@ impl Stop {
     pub fn not_built(alloc: Global, what: &[u8]) -> Stop
         ensures { IsStop result (refusals.not_built what.now) }
     {
-        match Bytes::copy_of(alloc, what) {
-            Ok(what) => Stop::Refused(SourceError::NotBuilt(what)),
-            Err(NoMemory) => Stop::NoMemory,
-        }
+        Stop::from(Fault::not_built(alloc, what))
     }
 
     /// The refusal of what stood where something else was wanted.
     pub fn unexpected(alloc: Global, wanted: &[u8], stood: &[u8]) -> Stop
         ensures { IsStop result (refusals.unexpected wanted.now stood.now) }
     {
-        match (Bytes::copy_of(alloc, wanted), Bytes::copy_of(alloc, stood)) {
-            (Ok(wanted), Ok(stood)) => Stop::Refused(SourceError::Unexpected(wanted, stood)),
-            _ => Stop::NoMemory,
-        }
+        Stop::from(Fault::unexpected(alloc, wanted, stood))
     }
 }

@@ -130,6 +130,8 @@ pub enum Word {
     /// It stands between the two parameters of an operand with two parts.
     Of,
     CalledName(CalledName),
+    /// Does nothing: it is passed over wherever a front is wanted.
+    Backslash,
 }
 
 impl SymbolCommand {
@@ -271,7 +273,7 @@ impl Tertiary {
 
 impl Word {
     /// Each word once, in the order in which they get their numbers.
-    pub const ALL: [Word; 46] = [
+    pub const ALL: [Word; 47] = [
         Word::Begingroup,
         Word::Endgroup,
         Word::Tertiary(Tertiary::Plus),
@@ -318,6 +320,7 @@ impl Word {
         Word::CalledName(CalledName::Before),
         Word::CalledName(CalledName::Last),
         Word::CalledName(CalledName::Behind),
+        Word::Backslash,
     ];
 
     /// The symbol that means the word at the start of a run.
@@ -343,6 +346,7 @@ impl Word {
             Word::Parameter(parameter) => parameter.name(),
             Word::Of => b"of",
             Word::CalledName(part) => part.name(),
+            Word::Backslash => b"\\",
         }
     }
 
