@@ -16,10 +16,10 @@ use Rattle.mp_values.specs.declared.turn.Pending.{Pending}
 use Rattle.mp_values.specs.declared.turn.Pending.TheVariants as pending
 use Rattle.mp_values.specs.declared.value.Value.{Value}
 use Rattle.mp_values.specs.declared.word.Word.TheVariants as word
-use Rattle.mp_expand.specs.Expansion.{Expansion, Rule}
+use Rattle.mp_expand.specs.Expansion.{Rule, NewestWith, reading, opening, waiting, with_requests}
 use Rattle.mp_expand.specs.Steps.{take_first, leave}
 use Rattle.mp_expand.specs.Fronts.{Table, name_of, meaning_of, stood}
-use Rattle.mp_expand.specs.Calls.{are_pair, argument_next, with_request, with_requests, needing, call, argument, with_argument, closed}
+use Rattle.mp_expand.specs.Calls.{are_pair, argument_next, with_request, needing, call, argument, with_argument, closed}
 use Rattle.mp_expand.specs.declared.front.Front.{Front}
 use Rattle.mp_expand.specs.declared.front.Front.TheVariants as front
 use Rattle.mp_expand.specs.declared.request.Delimited.{Delimited}
@@ -83,18 +83,14 @@ abbrev pub opened : Request → Delimited → Step → Rule Step
 opened r k (step.Front (front.Left symbol pair)) = argument r pair k
 opened r k x = halt (Refused error.BadArguments)
 
-abbrev pub reached_need : Need → Request → List Request → Step → Rule Step
-reached_need (need.Opening k) r rs x = do
+abbrev pub reached_by : Step → NewestWith Delimited → Rule Step
+reached_by x (Some ((r, k), rs)) = do
   off ← change (with_requests rs)
   opened r k x
-reached_need n r rs x = give x
-
-abbrev pub reached_by : List Request → Step → Rule Step
-reached_by [] x = give x
-reached_by (r ∷ rs) x = reached_need r.need r rs x
+reached_by x None = give x
 
 abbrev pub reached : Step → Rule Step
-reached x s = reached_by s.requests x s
+reached x s = reached_by x (opening s.requests) s
 
 -- the macro of a symbol is called, if it is one of `def`; calls of operators are not built
 abbrev pub call_by : Level → Macro → Rule Step
@@ -105,7 +101,6 @@ call_by other m = halt (not_built (name_of_definition (definition_of other)))
 
 -- a symbol by what it means
 abbrev pub symbol_expanded : ℕ → Meaning → Rule Step
-symbol_expanded symbol (meaning.Word word.Backslash) = give step.More
 symbol_expanded symbol (meaning.Word w) = reached (step.Front (front.Word symbol w))
 symbol_expanded symbol (meaning.Unbuilt name) = halt (not_built name)
 symbol_expanded symbol meaning.NewTag = reached (step.Front (front.Tag symbol))
@@ -134,18 +129,14 @@ expanded table None = reached (step.Front front.EndOfText)
 
 -- THE NEXT ITEM
 
-abbrev pub taken_need : Table → Need → Request → List Request → Option Pending → Rule Step
-taken_need table (need.Text pair depth) r rs x = do
+abbrev pub taken_by : Table → Option Pending → NewestWith (Delimiters × ℕ) → Rule Step
+taken_by table x (Some ((r, (pair, depth)), rs)) = do
   off ← change (with_requests rs)
   taken_in_text table r pair depth x
-taken_need table n r rs x = expanded table x
-
-abbrev pub taken_by : Table → List Request → Option Pending → Rule Step
-taken_by table [] x = expanded table x
-taken_by table (r ∷ rs) x = taken_need table r.need r rs x
+taken_by table x None = expanded table x
 
 abbrev pub taken : Table → Option Pending → Rule Step
-taken table x s = taken_by table s.requests x s
+taken table x s = taken_by table x (reading s.requests) s
 
 -- one more item is taken: a front, an operand that is needed, or nothing yet
 unfoldable pub advance : Table → Rule Step
@@ -191,17 +182,13 @@ items_of (answer.Value v) = item.Capsule v ∷ []
 items_of (answer.Suffix items) = items
 
 -- an answer that no call waits for does nothing
-abbrev pub answered_need : Table → Need → Request → List Request → List Item → Front → Rule Step
-answered_need table (need.Answer pair) r rs items x = do
+abbrev pub answered_by : Table → List Item → Front → NewestWith Delimiters → Rule Step
+answered_by table items x (Some ((r, pair), rs)) = do
   off ← change (with_requests rs)
   risen ← change leave
   behind table (with_argument items r) pair x
-answered_need table n r rs items x = give step.More
-
-abbrev pub answered_by : Table → List Request → List Item → Front → Rule Step
-answered_by table [] items x = give step.More
-answered_by table (r ∷ rs) items x = answered_need table r.need r rs items x
+answered_by table items x None = give step.More
 
 -- the newest call gets what it waits for, with the front that stands behind it
 unfoldable pub answered : Table → Answer → Front → Rule Step
-answered table a x s = answered_by table s.requests (items_of a) x s
+answered table a x s = answered_by table (items_of a) x (waiting s.requests) s

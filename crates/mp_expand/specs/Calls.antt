@@ -48,10 +48,6 @@ argument_next r = delimited_in (parameter_next r)
 abbrev pub with_request : Request → Expansion → Expansion
 with_request r s = record s { requests = r ∷ s.requests }
 
--- these calls and no others
-abbrev pub with_requests : List Request → Expansion → Expansion
-with_requests rs s = record s { requests = rs }
-
 abbrev pub needing : Need → Request → Request
 needing n r = record r { need = n }
 

@@ -1,9 +1,12 @@
 -- What an expander holds: the text that is left, and the calls of macros that are not yet whole.
 use Rattle.std.specs.Prelude.{◌≡◌, ℕ, List, [], ◌∷◌, Option, Some, None}
 use Rattle.mp_report.specs.declared.place.Place.{Place}
-use Rattle.mp_values.specs.Outcome.{OutcomeBy, RuleBy, Cause}
+use Rattle.mp_values.specs.Outcome.{RuleBy, Cause}
+use Rattle.mp_values.specs.declared.meaning.Delimiters.{Delimiters}
 use Rattle.mp_values.specs.declared.turn.Pending.{Pending}
+use Rattle.mp_expand.specs.declared.request.Delimited.{Delimited}
 use Rattle.mp_expand.specs.declared.request.Need.{Need}
+use Rattle.mp_expand.specs.declared.request.Need.TheVariants as need
 use Rattle.mp_expand.specs.declared.request.Request.{Request}
 
 pub record Expansion : Type 0 where
@@ -22,12 +25,44 @@ pub record Expansion : Type 0 where
 abbrev pub Rule : Type 0 → Type 0
 Rule A = RuleBy Cause Expansion A
 
--- what the newest call needs
-abbrev pub need_in : List Request → Option Need
-need_in [] = None
-need_in (r ∷ rs) = Some r.need
+-- THE NEWEST CALL, BY WHAT IT NEEDS
 
--- the newest call is pending no longer; none exactly where no call is pending
-abbrev pub TakesNewest : Expansion → Option Request → Expansion → Type 0
-TakesNewest old (Some r) new = (old.requests ≡ r ∷ new.requests) × (new ≡ record old { requests = new.requests })
-TakesNewest old None new = (old.requests ≡ []) × (new ≡ old)
+-- the newest call with something that it needs, and the others
+abbrev pub NewestWith : Type 0 → Type 0
+NewestWith A = Option ((Request × A) × List Request)
+
+-- where it reads a text: between what delimiters, and inside how many pairs of them
+abbrev pub reading_by : Request → List Request → Need → NewestWith (Delimiters × ℕ)
+reading_by r rs (need.Text pair depth) = Some ((r, (pair, depth)), rs)
+reading_by r rs n = None
+
+abbrev pub reading : List Request → NewestWith (Delimiters × ℕ)
+reading [] = None
+reading (r ∷ rs) = reading_by r rs r.need
+
+-- where it needs a left delimiter: before what argument
+abbrev pub opening_by : Request → List Request → Need → NewestWith Delimited
+opening_by r rs (need.Opening k) = Some ((r, k), rs)
+opening_by r rs n = None
+
+abbrev pub opening : List Request → NewestWith Delimited
+opening [] = None
+opening (r ∷ rs) = opening_by r rs r.need
+
+-- where it waits for an answer: between what delimiters
+abbrev pub waiting_by : Request → List Request → Need → NewestWith Delimiters
+waiting_by r rs (need.Answer pair) = Some ((r, pair), rs)
+waiting_by r rs n = None
+
+abbrev pub waiting : List Request → NewestWith Delimiters
+waiting [] = None
+waiting (r ∷ rs) = waiting_by r rs r.need
+
+-- these calls and no others
+abbrev pub with_requests : List Request → Expansion → Expansion
+with_requests rs s = record s { requests = rs }
+
+-- that call is taken off the others; where there is none such, all is as before
+abbrev pub TakesOff : {A : Type 0} → NewestWith A → Option (Request × A) → Expansion → Expansion → Type 0
+TakesOff newest (Some x) old new = (newest ≡ Some (x, new.requests)) × (new ≡ with_requests new.requests old)
+TakesOff newest None old new = (newest ≡ None) × (new ≡ old)

@@ -4,7 +4,9 @@ use Rattle.mp_report.specs.declared.place.Place.{Place}
 use Rattle.mp_report.specs.declared.error.Cap.TheVariants as cap
 use Rattle.mp_report.specs.declared.error.SourceError.TheVariants as error
 use Rattle.mp_values.specs.Outcome.{Refused, OutOfSteps}
+use Rattle.mp_values.specs.declared.item.Item.{Item}
 use Rattle.mp_values.specs.declared.turn.Pending.{Pending}
+use Rattle.mp_values.specs.declared.turn.Pending.TheVariants as pending
 use Rattle.mp_input.specs.Lines.{last_after, place_in}
 use Rattle.mp_expand.specs.Expansion.{Expansion, Rule}
 use Rattle.mp_expand.specs.declared.limits.TheConstants.{NESTING_LIMIT}
@@ -34,3 +36,7 @@ enter s =
 -- it was read
 abbrev pub leave : Expansion → Expansion
 leave s = record s { nesting = s.nesting - 1 }
+
+-- an item comes to stand in front of the text
+abbrev pub put_back : Item → Expansion → Expansion
+put_back x s = record s { text = pending.Item x ∷ s.text }

@@ -4,57 +4,44 @@ ghost use Rattle.std.specs.Prelude.{◌≡◌, Option, None};
 ghost use Rattle.mp_values.specs.Outcome.{Yields};
 ghost use Rattle.mp_expand.specs.Advance as advance;
 ghost use Rattle.mp_expand.specs.Fronts as fronts;
-ghost use Rattle.mp_expand.specs.Expansion.{need_in, TakesNewest};
 
 use crate::Front;
 use crate::expander::Expander;
 use crate::names::meaning_of;
-use crate::request::{Delimited, Need, Request};
+use crate::request::{Delimited, Request};
 use crate::step::Step;
 use mp_report::SourceError;
 use mp_scaled::Shared;
 use mp_symbols::Symbols;
-use mp_values::{Arguments, Item, Level, Macro, Meaning, Pending, Stop, Word};
+use mp_values::{Arguments, Item, Level, Macro, Meaning, Pending, Stop};
 
 impl Expander {
-    /// What the newest call needs.
-    pub(crate) fn needed(&self) -> Option<Need>
-        ensures { result ≡ need_in self.now.requests }
-    {
-        Some(self.requests.last()?.need)
-    }
-
-    /// The newest call, which is then pending no longer.
-    pub(crate) fn newest(&mut self) -> Option<Request>
-        ensures { TakesNewest self.old result self.new }
-    {
-        self.requests.pop()
-    }
-
     /// The next item: a front, an operand that is needed, or nothing yet. Line ends and file ends are passed over, and
     /// macros are called. A bad token, a word that is not built, and what stands where a call cannot go on, are refused.
     #[tactic(auto, unfolding(crate::specs::Advance::advance))]
     pub fn next(&mut self, table: &Symbols<Meaning>) -> Result<Step, Stop>
-        ensures { Yields result self.new (advance.advance table.now.names self.old) }
+        ensures exact { Yields result self.new (advance.advance table.now.names self.old) }
+        ensures kept { self.new.budget ≡ self.old.budget }
     {
         let taken = self.take()?;
         self.taken(table, taken)
     }
 
     fn taken(&mut self, table: &Symbols<Meaning>, taken: Option<Pending>) -> Result<Step, Stop>
-        ensures { Yields result self.new (advance.taken table.now.names taken self.old) }
+        ensures exact { Yields result self.new (advance.taken table.now.names taken self.old) }
+        ensures kept { self.new.budget ≡ self.old.budget }
     {
-        match self.needed() {
-            Some(Need::Text(pair, depth)) => match self.newest() {
-                Some(request) => self.taken_in_text(table, request, pair, depth, taken),
-                None => unreachable!(),
-            },
-            _ => self.expanded(table, taken),
+        match self.reading() {
+            Some((request, (pair, depth))) => self.taken_in_text(
+                table, request, pair, depth, taken,
+            ),
+            None => self.expanded(table, taken),
         }
     }
 
     fn expanded(&mut self, table: &Symbols<Meaning>, taken: Option<Pending>) -> Result<Step, Stop>
-        ensures { Yields result self.new (advance.expanded table.now.names taken self.old) }
+        ensures exact { Yields result self.new (advance.expanded table.now.names taken self.old) }
+        ensures kept { self.new.budget ≡ self.old.budget }
     {
         match taken {
             Some(Pending::Item(item)) => self.item_expanded(table, item),
@@ -64,7 +51,8 @@ impl Expander {
     }
 
     fn item_expanded(&mut self, table: &Symbols<Meaning>, item: Item) -> Result<Step, Stop>
-        ensures { Yields result self.new (advance.item_expanded table.now.names item self.old) }
+        ensures exact { Yields result self.new (advance.item_expanded table.now.names item self.old) }
+        ensures kept { self.new.budget ≡ self.old.budget }
     {
         match item {
             Item::Symbol(symbol) => self.symbol_expanded(table, symbol),
@@ -78,11 +66,11 @@ impl Expander {
 
     /// A symbol by what it means.
     fn symbol_expanded(&mut self, table: &Symbols<Meaning>, symbol: u32) -> Result<Step, Stop>
-        ensures { Yields result self.new (advance.symbol_expanded symbol
+        ensures exact { Yields result self.new (advance.symbol_expanded symbol
             (fronts.meaning_of table.now.names symbol) self.old) }
+        ensures kept { self.new.budget ≡ self.old.budget }
     {
         let front = match meaning_of(table, symbol) {
-            Some(Meaning::Word(Word::Backslash)) => return Ok(Step::More),
             Some(Meaning::Word(word)) => Front::Word(symbol, *word),
             Some(Meaning::Unbuilt(word)) => return Err(Stop::not_built(self.alloc, word.name())),
             Some(Meaning::NewTag | Meaning::Tag(_)) | None => Front::Tag(symbol),
@@ -96,32 +84,33 @@ impl Expander {
 
     /// The macro of a symbol is called, if it is one of `def`; calls of operators are not built.
     fn call_by(&mut self, called: &Shared<Macro>) -> Result<Step, Stop>
-        ensures { Yields result self.new (advance.call_by called.now.level called.now self.old) }
+        ensures exact { Yields result self.new (advance.call_by called.now.level called.now self.old) }
+        ensures kept { self.new.budget ≡ self.old.budget }
     {
+        let alloc = self.alloc;
         match called.get().level {
             Level::Plain => {
-                self.call(called.share()?, Arguments::new(self.alloc))?;
+                self.call(called.share()?, Arguments::new(alloc))?;
                 Ok(Step::More)
             }
-            level => Err(Stop::not_built(self.alloc, level.definition().name())),
+            level => Err(Stop::not_built(alloc, level.definition().name())),
         }
     }
 
     /// A front is what was looked for, unless a call needs a left delimiter.
     fn reached(&mut self, step: Step) -> Result<Step, Stop>
-        ensures { Yields result self.new (advance.reached step self.old) }
+        ensures exact { Yields result self.new (advance.reached step self.old) }
+        ensures kept { self.new.budget ≡ self.old.budget }
     {
-        match self.needed() {
-            Some(Need::Opening(kind)) => match self.newest() {
-                Some(request) => self.opened(request, kind, step),
-                None => unreachable!(),
-            },
-            _ => Ok(step),
+        match self.opening() {
+            Some((request, kind)) => self.opened(request, kind, step),
+            None => Ok(step),
         }
     }
 
     fn opened(&mut self, request: Request, kind: Delimited, step: Step) -> Result<Step, Stop>
-        ensures { Yields result self.new (advance.opened request kind step self.old) }
+        ensures exact { Yields result self.new (advance.opened request kind step self.old) }
+        ensures kept { self.new.budget ≡ self.old.budget }
     {
         match step {
             Step::Front(Front::Left(_, pair)) => self.argument(request, pair, kind),

@@ -8,7 +8,7 @@ use crate::Front;
 use crate::calls::are_pair;
 use crate::expander::Expander;
 use crate::names::name_of;
-use crate::request::{Delimited, Need, Request};
+use crate::request::{Delimited, Request};
 use crate::step::{Answer, Step};
 use mp_report::SourceError;
 use mp_scaled::{NoMemory, Shared};
@@ -36,26 +36,37 @@ impl Expander {
     ///
     /// `BadArguments` where an argument is missing or in excess, `Unexpected` where the last one is not closed.
     #[tactic(auto, unfolding(crate::specs::Advance::answered))]
-    pub fn answer(&mut self, table: &Symbols<Meaning>, answer: Answer, front: Front) -> Result<Step, Stop>
-        ensures { Yields result self.new (advance.answered table.now.names answer front self.old) }
+    pub fn answer(
+        &mut self,
+        table: &Symbols<Meaning>,
+        answer: Answer,
+        front: Front,
+    ) -> Result<Step, Stop>
+        ensures exact { Yields result self.new (advance.answered table.now.names answer front self.old) }
+        ensures kept { self.new.budget ≡ self.old.budget }
     {
-        match self.needed() {
-            Some(Need::Answer(pair)) => match self.newest() {
-                Some(request) => {
-                    let items = items_of(self.alloc, answer)?;
-                    self.leave();
-                    let request = request.with_argument(items)?;
-                    self.behind(table, request, pair, front)
-                }
-                None => unreachable!(),
-            },
-            _ => Ok(Step::More),
+        match self.waiting() {
+            Some((request, pair)) => {
+                let alloc = self.alloc;
+                let items = items_of(alloc, answer)?;
+                self.leave();
+                let request = request.with_argument(alloc, items)?;
+                self.behind(table, request, pair, front)
+            }
+            None => Ok(Step::More),
         }
     }
 
     /// Behind an argument.
-    fn behind(&mut self, table: &Symbols<Meaning>, request: Request, pair: Delimiters, front: Front) -> Result<Step, Stop>
-        ensures { Yields result self.new (advance.behind table.now.names request pair front self.old) }
+    fn behind(
+        &mut self,
+        table: &Symbols<Meaning>,
+        request: Request,
+        pair: Delimiters,
+        front: Front,
+    ) -> Result<Step, Stop>
+        ensures exact { Yields result self.new (advance.behind table.now.names request pair front self.old) }
+        ensures kept { self.new.budget ≡ self.old.budget }
     {
         match request.argument_next() {
             Some(kind) => self.behind_more(request, pair, kind, front),
@@ -64,8 +75,15 @@ impl Expander {
     }
 
     /// Behind an argument that is not the last between delimiters: a comma, or the right delimiter and another group.
-    fn behind_more(&mut self, request: Request, pair: Delimiters, kind: Delimited, front: Front) -> Result<Step, Stop>
-        ensures { Yields result self.new (advance.behind_more request pair kind front self.old) }
+    fn behind_more(
+        &mut self,
+        request: Request,
+        pair: Delimiters,
+        kind: Delimited,
+        front: Front,
+    ) -> Result<Step, Stop>
+        ensures exact { Yields result self.new (advance.behind_more request pair kind front self.old) }
+        ensures kept { self.new.budget ≡ self.old.budget }
     {
         match front {
             Front::Word(_, Word::Comma) => self.argument(request, pair, kind),
@@ -75,8 +93,15 @@ impl Expander {
     }
 
     /// Behind the last: the right delimiter.
-    fn behind_last(&mut self, table: &Symbols<Meaning>, request: Request, pair: Delimiters, front: Front) -> Result<Step, Stop>
-        ensures { Yields result self.new (advance.behind_last table.now.names request pair front self.old) }
+    fn behind_last(
+        &mut self,
+        table: &Symbols<Meaning>,
+        request: Request,
+        pair: Delimiters,
+        front: Front,
+    ) -> Result<Step, Stop>
+        ensures exact { Yields result self.new (advance.behind_last table.now.names request pair front self.old) }
+        ensures kept { self.new.budget ≡ self.old.budget }
     {
         match front {
             Front::Word(_, Word::Comma) => Err(Stop::Refused(SourceError::BadArguments)),

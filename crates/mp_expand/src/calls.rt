@@ -9,6 +9,7 @@ use crate::request::{Delimited, Need, Request};
 use crate::step::{Step, Want};
 use mp_scaled::{NoMemory, Shared};
 use mp_values::{Arguments, Delimiters, Items, Macro, ParamKind, Stop};
+use std::alloc::Global;
 
 /// What a parameter between delimiters takes.
 fn delimited_in(kind: Option<ParamKind>) -> Option<Delimited>
@@ -38,11 +39,19 @@ impl Request {
     }
 
     /// One more argument was got.
-    pub(crate) fn with_argument(mut self, items: Shared<Items>) -> Result<Request, NoMemory>
+    pub(crate) fn with_argument(
+        mut self,
+        alloc: Global,
+        items: Shared<Items>,
+    ) -> Result<Request, NoMemory>
         ensures { IfOk result (λ request. request ≡ calls.with_argument items self) }
     {
+        let Some(next) = self.next.checked_add(1) else {
+            return Err(NoMemory);
+        };
         self.got.push(items)?;
-        self.next += 1;
+        self.next = next;
+        self.text = Items::new(alloc);
         Ok(self)
     }
 
@@ -55,18 +64,10 @@ impl Request {
 }
 
 impl Expander {
-    /// A call stands before the others, and needs that.
-    pub(crate) fn need(&mut self, mut request: Request, need: Need) -> Result<(), Stop>
-        ensures { Yields result self.new (change (calls.with_request (calls.needing need request)) self.old) }
-    {
-        request.need = need;
-        self.requests.push(request)?;
-        Ok(())
-    }
-
     /// The body of a call comes to stand in front of the text.
     fn put_body(&mut self, request: Request) -> Result<(), Stop>
-        ensures { Yields result self.new (change (calls.with_body request) self.old) }
+        ensures exact { Yields result self.new (change (calls.with_body request) self.old) }
+        ensures kept { self.new.budget ≡ self.old.budget }
     {
         let body = request.called.get().body.share()?;
         self.input.reserve(1)?;
@@ -76,10 +77,11 @@ impl Expander {
 
     /// A call between two groups of arguments: it needs a left delimiter, or it is whole.
     fn next_group(&mut self, request: Request) -> Result<(), Stop>
-        ensures { Yields result self.new (calls.next_group request self.old) }
+        ensures exact { Yields result self.new (calls.next_group request self.old) }
+        ensures kept { self.new.budget ≡ self.old.budget }
     {
         match request.argument_next() {
-            Some(kind) => self.need(request, Need::Opening(kind)),
+            Some(kind) => Ok(self.need(request, Need::Opening(kind))?),
             None => match request.parameter_next() {
                 None => self.put_body(request),
                 Some(_) => {
@@ -92,7 +94,8 @@ impl Expander {
 
     /// Calls a macro, with the arguments that its body has before the first parameter.
     pub fn call(&mut self, called: Shared<Macro>, got: Arguments) -> Result<(), Stop>
-        ensures { Yields result self.new (calls.call called got self.old) }
+        ensures exact { Yields result self.new (calls.call called got self.old) }
+        ensures kept { self.new.budget ≡ self.old.budget }
     {
         let text = Items::new(self.alloc);
         self.next_group(Request {
@@ -106,7 +109,8 @@ impl Expander {
 
     /// A call waits for the answer to what it asks for.
     fn ask(&mut self, request: Request, pair: Delimiters, want: Want) -> Result<Step, Stop>
-        ensures { Yields result self.new (calls.ask request pair want self.old) }
+        ensures exact { Yields result self.new (calls.ask request pair want self.old) }
+        ensures kept { self.new.budget ≡ self.old.budget }
     {
         self.enter()?;
         self.need(request, Need::Answer(pair))?;
@@ -114,8 +118,14 @@ impl Expander {
     }
 
     /// The argument behind a left delimiter or a comma.
-    pub(crate) fn argument(&mut self, request: Request, pair: Delimiters, kind: Delimited) -> Result<Step, Stop>
-        ensures { Yields result self.new (calls.argument request pair kind self.old) }
+    pub(crate) fn argument(
+        &mut self,
+        request: Request,
+        pair: Delimiters,
+        kind: Delimited,
+    ) -> Result<Step, Stop>
+        ensures exact { Yields result self.new (calls.argument request pair kind self.old) }
+        ensures kept { self.new.budget ≡ self.old.budget }
     {
         match kind {
             Delimited::Expr => self.ask(request, pair, Want::Expression),
@@ -129,7 +139,8 @@ impl Expander {
 
     /// A group of arguments was closed.
     pub(crate) fn closed(&mut self, request: Request) -> Result<Step, Stop>
-        ensures { Yields result self.new (calls.closed request self.old) }
+        ensures exact { Yields result self.new (calls.closed request self.old) }
+        ensures kept { self.new.budget ≡ self.old.budget }
     {
         self.next_group(request)?;
         Ok(Step::More)

@@ -1,7 +1,8 @@
 //! The expander and its single steps.
 
 ghost use Rattle.std.specs.Prelude.{◌≡◌, ◌≤◌, [], ◌++◌, OnOk};
-ghost use Rattle.mp_values.specs.Outcome.{Yields};
+ghost use Rattle.mp_values.specs.Ends.{IsNoEnd};
+ghost use Rattle.mp_values.specs.Outcome.{Yields, change};
 ghost use Rattle.mp_values.specs.Items.{file_items};
 ghost use Rattle.mp_input.specs.Lines.{items_pending};
 ghost use Rattle.mp_expand.specs.Steps as steps;
@@ -12,7 +13,7 @@ use mp_input::Input;
 use mp_report::{Cap, Place, SourceError};
 use mp_scaled::{NoMemory, Shared};
 use mp_tokens::Tokens;
-use mp_values::{Pending, Stop};
+use mp_values::{Item, Pending, Stop};
 use std::alloc::Global;
 use std::marker::Model;
 
@@ -103,7 +104,8 @@ impl Expander {
     /// One more primary is read: `Limit Nesting` where too many would be.
     #[tactic(auto, unfolding(crate::specs::Steps::enter))]
     pub fn enter(&mut self) -> Result<(), Stop>
-        ensures { Yields result self.new (steps.enter self.old) }
+        ensures exact { Yields result self.new (steps.enter self.old) }
+        ensures kept { self.new.budget ≡ self.old.budget }
     {
         if self.nesting >= NESTING_LIMIT {
             return Err(Stop::Refused(SourceError::Limit(Cap::Nesting, NESTING_LIMIT)));
@@ -132,5 +134,16 @@ impl Expander {
         ensures { result ≡ steps.place_of self.now }
     {
         self.input.place()
+    }
+
+    /// Puts an item in front of the text, which is no end.
+    pub fn put_back(&mut self, item: Item) -> Result<(), Stop>
+        requires { IsNoEnd item }
+        ensures exact { Yields result self.new (change (steps.put_back item) self.old) }
+        ensures kept { self.new.budget ≡ self.old.budget }
+    {
+        self.input.reserve(1)?;
+        self.input.push_item(item);
+        Ok(())
     }
 }

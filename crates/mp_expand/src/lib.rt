@@ -17,6 +17,7 @@ mod front;
 mod limits;
 mod names;
 mod request;
+mod requests;
 mod step;
 mod texts;
 

@@ -1,5 +1,6 @@
 //! Text arguments, item by item.
 
+ghost use Rattle.std.specs.Prelude.{◌≡◌};
 ghost use Rattle.mp_values.specs.Outcome.{Yields};
 ghost use Rattle.mp_values.specs.Ends.{IsNoEnd};
 ghost use Rattle.mp_expand.specs.Advance as advance;
@@ -19,9 +20,16 @@ use std::mem::replace;
 
 impl Expander {
     /// One more item of a text argument, inside so many pairs of its delimiters.
-    fn text_item(&mut self, mut request: Request, pair: Delimiters, item: Item, depth: u32) -> Result<Step, Stop>
+    fn text_item(
+        &mut self,
+        mut request: Request,
+        pair: Delimiters,
+        item: Item,
+        depth: u32,
+    ) -> Result<Step, Stop>
         requires { IsNoEnd item }
-        ensures { Yields result self.new (advance.with_item request pair item depth self.old) }
+        ensures exact { Yields result self.new (advance.with_item request pair item depth self.old) }
+        ensures kept { self.new.budget ≡ self.old.budget }
     {
         request.text.push(item)?;
         self.need(request, Need::Text(pair, depth))?;
@@ -30,11 +38,12 @@ impl Expander {
 
     /// The right delimiter of the argument's own group ends it.
     fn text_ends(&mut self, mut request: Request) -> Result<Step, Stop>
-        ensures { Yields result self.new (calls.closed (calls.with_argument request.text request) self.old) }
+        ensures exact { Yields result self.new (calls.closed (calls.with_argument request.text request) self.old) }
+        ensures kept { self.new.budget ≡ self.old.budget }
     {
-        let items = replace(&mut request.text, Items::new(self.alloc));
-        let items = Shared::new(self.alloc, items)?;
-        let request = request.with_argument(items)?;
+        let alloc = self.alloc;
+        let items = replace(&mut request.text, Items::new(alloc));
+        let request = request.with_argument(alloc, Shared::new(alloc, items)?)?;
         self.closed(request)
     }
 
@@ -47,8 +56,9 @@ impl Expander {
         depth: u32,
         symbol: u32,
     ) -> Result<Step, Stop>
-        ensures { Yields result self.new (advance.symbol_in_text request pair depth symbol
+        ensures exact { Yields result self.new (advance.symbol_in_text request pair depth symbol
             (fronts.meaning_of table.now.names symbol) self.old) }
+        ensures kept { self.new.budget ≡ self.old.budget }
     {
         let item = Item::Symbol(symbol);
         match meaning_of(table, symbol) {
@@ -66,8 +76,16 @@ impl Expander {
         }
     }
     /// An item as it stands.
-    fn item_in_text(&mut self, table: &Symbols<Meaning>, request: Request, pair: Delimiters, depth: u32, item: Item) -> Result<Step, Stop>
-        ensures { Yields result self.new (advance.item_in_text table.now.names request pair depth item self.old) }
+    fn item_in_text(
+        &mut self,
+        table: &Symbols<Meaning>,
+        request: Request,
+        pair: Delimiters,
+        depth: u32,
+        item: Item,
+    ) -> Result<Step, Stop>
+        ensures exact { Yields result self.new (advance.item_in_text table.now.names request pair depth item self.old) }
+        ensures kept { self.new.budget ≡ self.old.budget }
     {
         match item {
             Item::LineEnd(_) => {
@@ -83,8 +101,16 @@ impl Expander {
     }
 
     /// What was taken while a call reads a text; the end of the text is refused.
-    pub(crate) fn taken_in_text(&mut self, table: &Symbols<Meaning>, request: Request, pair: Delimiters, depth: u32, taken: Option<Pending>) -> Result<Step, Stop>
-        ensures { Yields result self.new (advance.taken_in_text table.now.names request pair depth taken self.old) }
+    pub(crate) fn taken_in_text(
+        &mut self,
+        table: &Symbols<Meaning>,
+        request: Request,
+        pair: Delimiters,
+        depth: u32,
+        taken: Option<Pending>,
+    ) -> Result<Step, Stop>
+        ensures exact { Yields result self.new (advance.taken_in_text table.now.names request pair depth taken self.old) }
+        ensures kept { self.new.budget ≡ self.old.budget }
     {
         match taken {
             Some(Pending::Item(item)) => self.item_in_text(table, request, pair, depth, item),
