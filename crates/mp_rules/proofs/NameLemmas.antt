@@ -1,17 +1,64 @@
--- On names that are called: what a macro is told of its name speaks of no more than the name.
-use Rattle.std.proofs.Common.{◌≡◌, ℕ, List, [], ◌∷◌, ◌++◌, length, map, refl, ap, sym, ◌∙◌, arith}
+-- On names that are called: what a macro is told of its name.
+use Rattle.std.proofs.Common.{◌≡◌, ◌+◌, ℕ, List, [], ◌∷◌, ◌++◌, length, map, refl, ap, sym, ◌∙◌, arith}
 use Rattle.std.specs.Prelude.{take, drop}
 use Rattle.mp_values.specs.declared.item.Item.{Item}
+use Rattle.mp_values.specs.declared.item.Item.TheVariants as item
 use Rattle.mp_vartree.specs.declared.names.Part.{Part}
-use Rattle.mp_acts.specs.Counts.{Counts, greatest, IsWithin}
+use Rattle.mp_vartree.specs.declared.names.Part.TheVariants as part
+use Rattle.mp_acts.specs.Counts.{Counts, nothing, greatest, IsWithin}
 use Rattle.mp_acts.specs.Reach.{reach_of_item, reach_of_part, one_symbol}
 use Rattle.mp_rules.specs.Rules.{item_of_part, name_items, called_with}
-use Rattle.mp_rules.proofs.ReachLemmas.{first_within}
+use Rattle.mp_rules.proofs.ReachLemmas.{first_within, none_in, both_within, take_within, drop_within}
+
+-- a name as items speaks of what its parts do
+part_within : (n : Counts) (p : Part) → IsWithin (reach_of_part p) n → IsWithin (reach_of_item (item_of_part p)) n
+part_within n (part.Sym symbol) h = h
+part_within n (part.Sub units) h = none_in n
+
+pub parts_within : (n : Counts) (parts : List Part) → IsWithin (greatest reach_of_part parts) n → IsWithin (greatest reach_of_item (map item_of_part parts)) n
+unfolding greatest
+parts_within n [] h = none_in n
+parts_within n (p ∷ parts) h =
+    let both = first_within reach_of_part n p parts h in
+    both_within (reach_of_item (item_of_part p)) (greatest reach_of_item (map item_of_part parts)) n (part_within n p both.0) (parts_within n parts both.1)
+
+name_within : (n : Counts) (symbol : ℕ) (parts : List Part) → IsWithin (one_symbol symbol) n → IsWithin (greatest reach_of_part parts) n
+    → IsWithin (greatest reach_of_item (name_items symbol parts)) n
+unfolding greatest
+name_within n symbol parts a b = both_within (one_symbol symbol) (greatest reach_of_item (map item_of_part parts)) n a (parts_within n parts b)
+
+three_within : (n : Counts) (a b : List Item) → IsWithin (greatest reach_of_item a) n → IsWithin (greatest reach_of_item b) n
+    → IsWithin (greatest (greatest reach_of_item) (a ∷ b ∷ [] ∷ [])) n
+unfolding greatest
+three_within n a b h k =
+    both_within (greatest reach_of_item a) _ n h (both_within (greatest reach_of_item b) _ n k (both_within nothing nothing n (none_in n) (none_in n)))
 
 pub called_within : (n : Counts) (symbol : ℕ) (parts : List Part) → IsWithin (one_symbol symbol) n → IsWithin (greatest reach_of_part parts) n
     → IsWithin (greatest (greatest reach_of_item) (called_with symbol parts)) n
-called_within n symbol parts a b = ?
+called_within n symbol parts a b =
+    let name = name_within n symbol parts a b in
+    three_within n (take (length parts) (name_items symbol parts)) (drop (length parts) (name_items symbol parts))
+    (take_within reach_of_item n (length parts) (name_items symbol parts) name) (drop_within reach_of_item n (length parts) (name_items symbol parts) name)
 
+take_all : (xs ys : List Item) → take (length xs) (xs ++ ys) ≡ xs
+take_all [] ys = refl
+take_all (x ∷ xs) ys = ap (λ more. x ∷ more) (take_all xs ys)
+
+drop_all : (xs ys : List Item) → drop (length xs) (xs ++ ys) ≡ ys
+drop_all [] ys = refl
+drop_all (x ∷ xs) ys = drop_all xs ys
+
+length_last : (xs : List Item) (x : Item) → length (xs ++ x ∷ []) ≡ length xs + 1
+length_last [] x = refl
+length_last (y ∷ xs) x = ap (λ n. 1 + n) (length_last xs x)
+
+length_map : (parts : List Part) → length (map item_of_part parts) ≡ length parts
+length_map [] = refl
+length_map (p ∷ parts) = ap (λ n. 1 + n) (length_map parts)
+
+-- what stands before the last part, and that part
 pub split_at_last : (symbol : ℕ) (parts : List Part) (before : List Item) (last : Item) → before ++ last ∷ [] ≡ name_items symbol parts
     → before ∷ (last ∷ []) ∷ [] ∷ [] ≡ called_with symbol parts
-split_at_last symbol parts before last e = ?
+split_at_last symbol parts before last e =
+    let count : length parts ≡ length before = omega (arith, length_last before last, length_map parts, ap length e) in
+    rw (count, sym e, take_all before (last ∷ []), drop_all before (last ∷ [])) refl
