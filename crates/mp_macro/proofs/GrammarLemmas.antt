@@ -19,7 +19,8 @@ use Rattle.mp_macro.specs.Signs.{Table, sign_of_symbol}
 use Rattle.mp_macro.specs.Headings.{Reading, opening, equals_by, parameters_by, delimited_kind, delimited_kind_in, group_kind_by, group_rest_by, closed_by, are_pair, room_by, with_name, with_kind, with_parameter, bare_kind, bare_name_by, of_by, room_for_part_by, with_part, part_by, bracket_by, operator_equals_by}
 use Rattle.mp_macro.specs.Definitions.{start, read, read_items}
 use Rattle.mp_macro.specs.Grammar.{Further, Group, Bare, Absent, One, Two, Sets, ByEquals, ByAssign, further_written, group_written, groups_written, bare_written, sets_written, group_kinds, group_names, groups_kinds, groups_names, bare_kinds, bare_names, names, kinds, Heading, Means, written, NamePart, Tag, Subscript, part_written, parts_written, suffix_written, shape, shapes, HeadingsAreRead, VariableHeadingsAreRead, OperatorHeadingsAreRead}
-use Rattle.mp_macro.specs.declared.limits.TheConstants.{PARAMETER_LIMIT, PART_LIMIT}
+use Rattle.mp_vartree.specs.declared.names.TheConstants.{PART_LIMIT}
+use Rattle.mp_macro.specs.declared.limits.TheConstants.{PARAMETER_LIMIT}
 use Rattle.mp_macro.specs.declared.sign.Sign.TheVariants as sign
 use Rattle.mp_macro.specs.declared.stage.Stage.{Stage}
 use Rattle.mp_macro.specs.declared.stage.Stage.TheVariants.{Part, Bracket, LeftName, OperatorEquals, Parameters, GroupKind, GroupName, GroupRest, BareName, Of, OfName, Equals, Body}

@@ -15,7 +15,8 @@ use Rattle.mp_macro.specs.Headings.{Reading, equals_by, room_by, room_for_parame
 use Rattle.mp_macro.specs.Bodies.{Count, Begins, Ends, Neither, count_of, enddef, word_by, symbol_by, parameter_by, body}
 use Rattle.mp_macro.specs.Definitions.{item_at, read}
 use Rattle.mp_macro.specs.Numbered.{IsBelow, KeepsBelow, SymbolsStayNumbered}
-use Rattle.mp_macro.specs.declared.limits.TheConstants.{PARAMETER_LIMIT, PART_LIMIT}
+use Rattle.mp_vartree.specs.declared.names.TheConstants.{PART_LIMIT}
+use Rattle.mp_macro.specs.declared.limits.TheConstants.{PARAMETER_LIMIT}
 use Rattle.mp_macro.specs.declared.sign.Sign.{Sign}
 use Rattle.mp_macro.specs.declared.sign.Sign.TheVariants as sign
 use Rattle.mp_macro.specs.declared.stage.Stage.{Stage}

@@ -19,7 +19,8 @@ use Rattle.mp_vartree.specs.declared.names.Shape.TheVariants.{Sym, Any}
 use Rattle.mp_macro.specs.Signs.{Table, sign_of_symbol}
 use Rattle.mp_macro.specs.Headings.{delimited_kind, bare_kind}
 use Rattle.mp_macro.specs.Definitions.{start, read_items}
-use Rattle.mp_macro.specs.declared.limits.TheConstants.{PARAMETER_LIMIT, PART_LIMIT}
+use Rattle.mp_vartree.specs.declared.names.TheConstants.{PART_LIMIT}
+use Rattle.mp_macro.specs.declared.limits.TheConstants.{PARAMETER_LIMIT}
 use Rattle.mp_macro.specs.declared.reader.GroupSymbols.{GroupSymbols}
 use Rattle.mp_macro.specs.declared.sign.Sign.{Sign}
 use Rattle.mp_macro.specs.declared.sign.Sign.TheVariants as sign

@@ -19,7 +19,8 @@ use Rattle.mp_values.specs.declared.word.Word.TheVariants as word
 use Rattle.mp_vartree.specs.declared.names.Shape.{Shape}
 use Rattle.mp_vartree.specs.declared.names.Shape.TheVariants as shape
 use Rattle.mp_macro.specs.Signs.{Table, name_of, stood}
-use Rattle.mp_macro.specs.declared.limits.TheConstants.{PARAMETER_LIMIT, PART_LIMIT}
+use Rattle.mp_vartree.specs.declared.names.TheConstants.{PART_LIMIT}
+use Rattle.mp_macro.specs.declared.limits.TheConstants.{PARAMETER_LIMIT}
 use Rattle.mp_macro.specs.declared.reader.GroupSymbols.{GroupSymbols}
 use Rattle.mp_macro.specs.declared.sign.Sign.{Sign}
 use Rattle.mp_macro.specs.declared.sign.Sign.TheVariants as sign

@@ -5,3 +5,4 @@ pub mod Definitions
 pub mod Grammar
 pub mod Texts
 pub mod Numbered
+pub mod Contents

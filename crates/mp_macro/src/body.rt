@@ -15,7 +15,7 @@ use mp_scaled::NoMemory;
 use mp_symbols::Symbols;
 use mp_values::{CalledName, Definition, Fault, Item, Meaning, Word};
 
-// The last place of a symbol among these, counted from 0.
+/// The last place of a symbol among these, counted from 0.
 fn last_place(symbol: u32, names: &[u32]) -> Option<usize>
     ensures place { result ≡ bodies.last_place 0 symbol names.now }
     ensures within { IfSome result (λ place. place < length names.now) }
@@ -103,7 +103,7 @@ impl MacroReader {
         self.with_word(symbol, depth - 1)
     }
 
-    // A definition inside others. Want of memory is also answered where there are 2^32 of them.
+    /// A definition inside others. Want of memory is also answered where there are 2^32 of them.
     fn inner(&mut self, symbol: u32, depth: u32) -> Result<(), Fault>
         ensures { Gives result self.new (bodies.with_word (item_variants.Symbol symbol) (depth + 1) self.old) }
     {
@@ -139,7 +139,7 @@ impl MacroReader {
         }
     }
 
-    // The parameter that a symbol stands for.
+    /// The parameter that a symbol stands for.
     fn parameter(&self, symbol: u32, sign: Sign) -> Option<u8>
         ensures { result ≡ bodies.parameter_by self.now symbol sign }
     {

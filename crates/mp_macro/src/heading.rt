@@ -8,30 +8,18 @@ ghost use Rattle.mp_macro.specs.Definitions as definitions;
 ghost use Rattle.mp_macro.specs.Numbered.{IsBelow};
 ghost use Rattle.mp_macro.specs.Signs as signs;
 
-use crate::limits::{PARAMETER_LIMIT, PART_LIMIT};
+use crate::limits::PARAMETER_LIMIT;
 use crate::reader::MacroReader;
 use crate::sign::{Sign, name_of, sign_of, stood};
 use crate::stage::Stage;
 use mp_report::{Cap, SourceError};
-use mp_scaled::{Bytes, NoMemory};
 use mp_symbols::Symbols;
 use mp_values::{
     CalledName, Definition, Delimiters, Fault, Item, Meaning, ParamKind, Parameter, Word,
 };
-use mp_vartree::Shape;
-use std::alloc::Global;
+use mp_vartree::{PART_LIMIT, Shape};
 
-// The refusal of what stood where something else was wanted.
-fn unexpected_fault(alloc: Global, wanted: &[u8], stood: &[u8]) -> Fault
-    ensures { IsFault result (error.Unexpected wanted.now stood.now) }
-{
-    match (Bytes::copy_of(alloc, wanted), Bytes::copy_of(alloc, stood)) {
-        (Ok(wanted), Ok(stood)) => Fault::Refused(SourceError::Unexpected(wanted, stood)),
-        _ => Fault::NoMemory,
-    }
-}
-
-// What a parameter between delimiters can take.
+/// What a parameter between delimiters can take.
 fn delimited_kind(word: Parameter) -> Option<ParamKind>
     ensures { result ≡ headings.delimited_kind word }
 {
@@ -52,7 +40,7 @@ fn delimited_kind_in(sign: Sign) -> Option<ParamKind>
     }
 }
 
-// What a parameter without delimiters can take.
+/// What a parameter without delimiters can take.
 fn bare_kind(word: Parameter) -> ParamKind
     ensures { result ≡ headings.bare_kind word }
 {
@@ -119,7 +107,7 @@ impl MacroReader {
         requires { IsBelow (length table.now.names) item.now }
         ensures { IsFault result (error.Unexpected wanted.now (signs.stood table.now.names item.now)) }
     {
-        unexpected_fault(self.alloc, wanted, stood(table, item))
+        Fault::unexpected(self.alloc, wanted, stood(table, item))
     }
 
     /// Any symbol.

@@ -1,7 +1,8 @@
-//! Laws of definitions: what is written by the grammar is read as what it says, and what is defined is a symbol of the
-//! table.
+//! Laws of definitions: what is written by the grammar is read as what it says, what is defined is a symbol of the
+//! table, and a body holds what was read.
 
 ghost use Rattle.mp_macro.specs.Grammar.{HeadingsAreRead, VariableHeadingsAreRead, OperatorHeadingsAreRead};
+ghost use Rattle.mp_macro.specs.Contents.{BodiesHoldWhatIsRead};
 ghost use Rattle.mp_macro.specs.Numbered.{SymbolsStayNumbered};
 ghost use Rattle.mp_macro.specs.Texts.{BodiesAreRead};
 
@@ -29,4 +30,10 @@ pub fn bodies_are_read()
 /// names, the symbol that is defined is so once the item was read or refused.
 pub fn symbols_stay_numbered()
     ensures { SymbolsStayNumbered }
+{}
+
+/// A law: the items of a body are those that were read, parameters, and the two symbols of a group. By whatever measure
+/// these are at most a bound, all items of the body are so once the item was read or refused.
+pub fn bodies_hold_what_is_read()
+    ensures { BodiesHoldWhatIsRead }
 {}

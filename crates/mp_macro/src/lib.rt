@@ -18,10 +18,10 @@ mod substitution;
 
 pub use defined::Defined;
 pub use laws::{
-    bodies_are_read, headings_are_read, operator_headings_are_read, symbols_stay_numbered,
-    variable_headings_are_read,
+    bodies_are_read, bodies_hold_what_is_read, headings_are_read, operator_headings_are_read,
+    symbols_stay_numbered, variable_headings_are_read,
 };
-pub use limits::{PARAMETER_LIMIT, PART_LIMIT};
+pub use limits::PARAMETER_LIMIT;
 pub use reader::{GroupSymbols, MacroReader, read_definition};
 pub use sign::Sign;
 pub use stage::Stage;

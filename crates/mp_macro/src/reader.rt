@@ -2,7 +2,6 @@
 
 ghost use Rattle.std.specs.Prelude.{◌≡◌, All, IfOk, length};
 ghost use Rattle.mp_values.specs.Outcome.{Gives};
-ghost use Rattle.mp_values.specs.Refusals.{error_of_token};
 ghost use Rattle.mp_values.specs.Ends.{IsNoEnd};
 ghost use Rattle.mp_macro.specs.Definitions as definitions;
 ghost use Rattle.mp_macro.specs.Definitions.{Answers};
@@ -13,7 +12,6 @@ use crate::stage::Stage;
 use mp_report::SourceError;
 use mp_scaled::{Listing, NoMemory, Shared};
 use mp_symbols::Symbols;
-use mp_tokens::BadToken;
 use mp_values::{Definition, Fault, Item, Items, Level, Macro, Meaning, Params};
 use mp_vartree::Pattern;
 use std::alloc::Global;
@@ -44,6 +42,7 @@ pub struct MacroReader {
 impl Model for MacroReader {
     ghost use Rattle.std.specs.Prelude.{length, ◌≤◌};
     ghost use Rattle.mp_macro.specs.Headings.{Reading};
+    ghost use Rattle.mp_macro.specs.declared.limits.TheConstants.{PARAMETER_LIMIT};
 
     ghost Value = { Reading };
 
@@ -59,18 +58,7 @@ impl Model for MacroReader {
       body = r.body;
     } };
 
-    ghost invariant = { λ r. length r.names ≤ 64 };
-}
-
-// The error of a bad token.
-fn error_of(cause: BadToken) -> SourceError
-    ensures { result ≡ error_of_token cause }
-{
-    match cause {
-        BadToken::Character(byte) => SourceError::BadCharacter(u32::from(byte)),
-        BadToken::Unfinished => SourceError::UnfinishedString,
-        BadToken::Enormous => SourceError::EnormousNumber,
-    }
+    ghost invariant = { λ r. length r.names ≤ PARAMETER_LIMIT };
 }
 
 impl MacroReader {
@@ -102,12 +90,12 @@ impl MacroReader {
         match item {
             Item::LineEnd(_) => Ok(()),
             Item::FileEnd | Item::EndOfText => Err(Fault::Refused(SourceError::FileEndedInText)),
-            Item::Bad(cause) => Err(Fault::Refused(error_of(cause))),
+            Item::Bad(cause) => Err(Fault::from(cause)),
             item => self.item(table, item),
         }
     }
 
-    // An item that is no end, where something may stand next.
+    /// An item that is no end, where something may stand next.
     fn item(&mut self, table: &Symbols<Meaning>, item: Item) -> Result<(), Fault>
         requires end { IsNoEnd item }
         requires symbol { IsBelow (length table.now.names) item }

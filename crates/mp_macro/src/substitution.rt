@@ -8,7 +8,7 @@ use mp_scaled::NoMemory;
 use mp_values::{Arguments, Item, Items};
 use std::alloc::Global;
 
-// Items once more, at the end of others.
+/// Items once more, at the end of others.
 fn append(items: &[Item], to: &mut Items) -> Result<(), NoMemory>
     requires { NoEnds items.now }
     ensures { OnOk result (to.new ≡ to.old ++ items.now) }
@@ -19,7 +19,7 @@ fn append(items: &[Item], to: &mut Items) -> Result<(), NoMemory>
     Ok(())
 }
 
-// The items of the argument of that number; without one, none.
+/// The items of the argument of that number; without one, none.
 fn argument(arguments: &Arguments, number: u8) -> &[Item]
     ensures items { result.now ≡ unwrap_or (slice_get arguments.now number) [] }
     ensures ends { NoEnds result.now }
@@ -33,7 +33,7 @@ fn argument(arguments: &Arguments, number: u8) -> &[Item]
     }
 }
 
-// What an item of a body stands for, at the end of others.
+/// What an item of a body stands for, at the end of others.
 fn append_one(item: &Item, arguments: &Arguments, to: &mut Items) -> Result<(), NoMemory>
     requires { IsNoEnd item.now }
     ensures { OnOk result (to.new ≡ to.old ++ substitution.stands_for arguments.now item.now) }

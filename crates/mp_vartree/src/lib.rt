@@ -23,6 +23,6 @@ pub use answers::{BadDeclaration, Found, WrongType};
 pub use entry::Variable;
 pub use kinds::{has_kind, have_one_kind};
 pub use laws::{one_pattern_matches, variables_are_a_map};
-pub use names::{Part, Pattern, Shape, Suffix};
+pub use names::{PART_LIMIT, Part, Pattern, Shape, Suffix};
 pub use serials::Serials;
 pub use vars::Vars;

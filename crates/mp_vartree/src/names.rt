@@ -2,6 +2,9 @@
 
 use mp_scaled::Listing;
 
+/// A name may have so many parts behind its tag.
+pub const PART_LIMIT: u32 = 50;
+
 /// A part of a full name.
 #[derive(Clone, Copy, Debug, PartialEq, Eq, PartialOrd, Ord)]
 pub enum Part {
