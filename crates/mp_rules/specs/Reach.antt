@@ -5,7 +5,8 @@ use Rattle.mp_values.specs.declared.turn.LeftOver.TheVariants.{Forever, Values, 
 use Rattle.mp_values.specs.declared.turn.Pending.{Pending}
 use Rattle.mp_values.specs.declared.turn.Pending.TheVariants.{Item, Turn}
 use Rattle.mp_acts.specs.Counts.{Counts, nothing, most, greatest, IsWithin}
-use Rattle.mp_acts.specs.Reach.{reach, reach_of_item, reach_of_pair, one_symbol, one_internal}
+use Rattle.mp_acts.specs.Reach.{reach, reach_of_item, reach_of_macro, reach_of_pair, one_symbol, one_internal}
+use Rattle.mp_values.specs.declared.macros.Macro.{Macro}
 use Rattle.mp_values.specs.declared.value.Value.{Value}
 use Rattle.mp_expand.specs.Expansion.{Expansion}
 use Rattle.mp_expand.specs.declared.front.Front.{Front}
@@ -75,11 +76,16 @@ reach_of_need (need.Text pair depth) = reach_of_pair pair
 -- a call: its body, its arguments, what was read of a text, and its delimiters
 abbrev pub reach_of_request : Request → Counts
 reach_of_request r =
-    most (most (greatest reach_of_item r.called.body) (greatest (greatest reach_of_item) r.got)) (most (greatest reach_of_item r.text) (reach_of_need r.need))
+    most (most (reach_of_macro r.called) (greatest (greatest reach_of_item) r.got)) (most (greatest reach_of_item r.text) (reach_of_need r.need))
 
 -- the text that is left, and the calls that are not yet whole
 abbrev pub reach_of_expansion : Expansion → Counts
 reach_of_expansion e = most (reach_of_text e.text) (greatest reach_of_request e.requests)
+
+-- the macro that a name is the name of, if it is that of one
+abbrev pub reach_of_named_macro : Option Macro → Counts
+reach_of_named_macro None = nothing
+reach_of_named_macro (Some m) = reach_of_macro m
 
 -- what comes of one more item
 abbrev pub reach_of_step : Step → Counts

@@ -6,12 +6,13 @@ ghost use Rattle.mp_acts.specs.Counts.{IsWithin, greatest, nothing};
 ghost use Rattle.mp_acts.specs.Arithmetic as arithmetic;
 ghost use Rattle.mp_acts.specs.Groups as groups;
 ghost use Rattle.mp_acts.specs.Lines as lines;
-ghost use Rattle.mp_acts.specs.Reach.{reach, reach_of_item, reach_of_macro, reach_of_part};
+ghost use Rattle.mp_acts.specs.Reach.{reach, reach_of_macro, reach_of_part};
 ghost use Rattle.mp_acts.specs.State.{symbol_count, internal_count};
 ghost use Rattle.mp_acts.specs.Suffixes as suffixes;
 ghost use Rattle.mp_acts.specs.Variables as variables;
 ghost use Rattle.mp_rules.specs.Machine.{things};
 ghost use Rattle.mp_rules.specs.Promises.{Acts, ActsValue};
+ghost use Rattle.mp_rules.specs.Reach.{reach_of_named_macro};
 ghost use Rattle.mp_rules.specs.Chains.{gets, reach_of_side};
 ghost use Rattle.mp_rules.specs.Steps.{acting, internal_number};
 
@@ -111,7 +112,7 @@ impl Evaluator {
     #[tactic(auto, using(crate::proofs::Stops::fault_stops))]
     pub(crate) fn define(&mut self, made: Defined) -> Result<(), Stop>
         requires symbol { made.symbol < symbol_count self.old.acts }
-        requires body { IsWithin (greatest reach_of_item made.value.body) (things self.old) }
+        requires body { IsWithin (reach_of_macro made.value) (things self.old) }
         ensures { Acts (acting (variables.define made)) result self.old self.new }
     {
         Ok(self.acts.do_define(made)?)
@@ -120,7 +121,7 @@ impl Evaluator {
     /// The macro that a name, or the shortest beginning of it that is one, is the name of.
     pub(crate) fn macro_named(&self, root: u32, name: &Suffix) -> Result<Option<Shared<Macro>>, Stop>
         ensures exact { IfOk result (λ m. m ≡ variables.macro_named self.now.acts root name.now) }
-        ensures within { IfOk result (λ m. IsWithin (reach_of_macro m) (things self.now)) }
+        ensures within { IfOk result (λ m. IsWithin (reach_of_named_macro m) (things self.now)) }
         ensures starved { OnErr result (result ≡ Err Stop.NoMemory) }
     {
         match self.acts.macro_named(root, name.as_slice()) {

@@ -1,6 +1,6 @@
 //! Definitions of macros: their items are taken as they stand, until the definition is whole.
 
-ghost use Rattle.std.specs.Prelude.{◌≡◌, ◌<◌};
+ghost use Rattle.std.specs.Prelude.{◌≡◌, IfOk};
 ghost use Rattle.mp_macro.specs.Definitions.{start};
 ghost use Rattle.mp_acts.specs.Counts.{IsWithin};
 ghost use Rattle.mp_acts.specs.Definitions.{group_symbols};
@@ -46,8 +46,10 @@ impl Evaluator {
     #[tactic(auto, using(crate::proofs::DefinitionLemmas::read_fault_stops))]
     fn read_pending(&self, reader: MacroReader, taken: Pending) -> Result<MacroReader, Stop>
         requires reader { IsWithin (reach_of_reading reader) (things self.now) }
+        requires group { reader.group ≡ group_symbols }
         requires taken { IsWithin (reach_of_pending taken) (things self.now) }
-        ensures { ActsReading (pending_read taken reader) result self.now self.now }
+        ensures read { ActsReading (pending_read taken reader) result self.now self.now }
+        ensures group { IfOk result (λ now. now.group ≡ group_symbols) }
     {
         match taken {
             Pending::Item(item) => {

@@ -6,7 +6,7 @@ ghost use Rattle.mp_expand.specs.Advance.{items_of};
 ghost use Rattle.mp_expand.specs.Calls.{call};
 ghost use Rattle.mp_expand.specs.Steps.{enter};
 ghost use Rattle.mp_acts.specs.Counts.{greatest};
-ghost use Rattle.mp_acts.specs.Reach.{reach, reach_of_item};
+ghost use Rattle.mp_acts.specs.Reach.{reach, reach_of_item, reach_of_macro};
 ghost use Rattle.mp_rules.specs.Fronts.{raw_stood, refused_front, refused_raw};
 ghost use Rattle.mp_rules.specs.Promises.{Acts, ActsValue, Advances, Answers, Took};
 ghost use Rattle.mp_rules.specs.Starts.{start_on, whole};
@@ -182,7 +182,7 @@ impl Evaluator {
 
     /// Calls the macro of a variable, with what it is told of its name.
     pub(crate) fn call(&mut self, called: Shared<Macro>, arguments: Arguments) -> Result<(), Stop>
-        requires body { IsWithin (greatest reach_of_item called.body) (things self.old) }
+        requires body { IsWithin (reach_of_macro called) (things self.old) }
         requires arguments { IsWithin (greatest (greatest reach_of_item) arguments) (things self.old) }
         ensures acts { Acts (expanding (call called arguments)) result self.old self.new }
         ensures hand { self.new.front ≡ self.old.front }

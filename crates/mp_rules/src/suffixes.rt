@@ -2,7 +2,7 @@
 
 ghost use Rattle.std.specs.Prelude.{◌≡◌, ◌<◌, []};
 ghost use Rattle.mp_acts.specs.Counts.{IsWithin, greatest};
-ghost use Rattle.mp_acts.specs.Reach.{reach_of_item, reach_of_part};
+ghost use Rattle.mp_acts.specs.Reach.{reach_of_macro, reach_of_part};
 ghost use Rattle.mp_acts.specs.State.{symbol_count};
 ghost use Rattle.mp_rules.specs.Machine.{things};
 ghost use Rattle.mp_rules.specs.Promises.{Means, Acts, Uses, ActsPart, UsesName};
@@ -108,7 +108,7 @@ impl Evaluator {
     fn call_named(&mut self, symbol: u32, parts: &Suffix, called: Shared<Macro>) -> Result<Named, Stop>
         requires symbol { symbol < symbol_count self.old.acts }
         requires parts { IsWithin (greatest reach_of_part parts.now) (things self.old) }
-        requires body { IsWithin (greatest reach_of_item called.body) (things self.old) }
+        requires body { IsWithin (reach_of_macro called) (things self.old) }
         ensures { UsesName (rules.called_by the symbol parts.now called called.level) result self.old self.new }
     {
         match called.get().level {

@@ -368,7 +368,7 @@ const MACROS: [(&str, &str, u8); 36] = [
     ("def h(text t)=show t enddef; delimiters << >>; h<<1,(2)>>;", ">> 1\n>> 2\n", 0),
     (
         "def h(text t)=show t enddef; h(1;2)) 3",
-        "a.mp:1: error 7 Unexpected \"statement\" \"number\"\n",
+        ">> 1\na.mp:1: error 7 Unexpected \"=\" \")\"\n",
         1,
     ),
     ("show \\1\\+\\2\\;", ">> 3\n", 0),
@@ -381,7 +381,7 @@ const MACROS: [(&str, &str, u8); 36] = [
         "a.mp:1: error 7 Unexpected \";\" \"@#\"\n",
         1,
     ),
-    ("vardef v=1 enddef; v:=3;", "a.mp:1: error 7 Unexpected \";\" \":=\"\n", 1),
+    ("vardef v=1 enddef; v:=3;", "a.mp:1: error 7 Unexpected \"=\" \":=\"\n", 1),
     ("def mk(suffix n)(expr v)=def n=v enddef; enddef; mk(five)(2+3) show five;", ">> 5\n", 0),
     ("def nothing= enddef; def f(expr a)=a enddef; show f nothing (3) nothing;", ">> 3\n", 0),
     ("def two(expr a,b)=a*10+b enddef; show two(two(1,2),3);", ">> 123\n", 0),

@@ -12,6 +12,7 @@ abbrev pub invariant-items : goal.invariant-items
 invariant-items l = record {
   leads : definition_read (start l.fn.word group_symbols) l.fn.self ≡ unless_whole (is_whole l.reader) l.reader (read_on l.self.expander.text l.reader) l.self;
   went : coming l.self ≤ coming l.fn.self;
+  group : l.reader.group ≡ group_symbols;
   hand : l.self.front ≡ front.EndOfText;
   kept : l.self.expander.budget ≡ l.fn.self.expander.budget;
   files : l.self.sources ≡ l.fn.self.sources;
