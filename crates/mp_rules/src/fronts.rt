@@ -1,18 +1,13 @@
 //! Fronts and raw items: how the next one is got, and how calls of macros are answered on the way.
 
-ghost use Rattle.std.specs.Prelude.{◌≡◌, ◌<◌, IfOk, map};
-ghost use Rattle.mp_acts.specs.Counts.{IsWithin, nothing};
-ghost use Rattle.mp_acts.specs.State.{symbol_count};
-ghost use Rattle.mp_rules.specs.Machine.{things};
-ghost use Rattle.mp_rules.specs.Reach.{reach_of_step};
-ghost use Rattle.mp_rules.specs.Rules.{NextFront, NextRaw, Operand, raw_symbol, advancing};
+ghost use Rattle.mp_rules.specs.Rules.{NextFront, NextRaw, Operand, raw_symbol};
 ghost use Rattle.mp_rules.specs.Rules as rules;
-ghost use Rattle.mp_rules.specs.Steps as steps;
-ghost use Rattle.mp_rules.specs.Promises.{Means, UsesSymbol, UsesAnswer, Advances, Answers};
+ghost use Rattle.mp_rules.specs.Promises.{Means, ActsAnswer, UsesSymbol};
 ghost use Rattle.mp_rules.specs.Meaning.{the};
 
 use crate::evaluator::Evaluator;
 use crate::front::{Raw, Taken};
+use crate::names::part_items;
 use mp_expand::{Answer, Front, Step, Want};
 use mp_scaled::Shared;
 use mp_values::Stop;
@@ -77,7 +72,7 @@ impl Evaluator {
             }
             Want::Suffix => {
                 let parts = self.suffix()?;
-                Ok(Answer::Suffix(self.part_items(&parts)?))
+                Ok(Answer::Suffix(part_items(self.alloc, parts.as_slice())?))
             }
         }
     }

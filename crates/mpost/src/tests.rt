@@ -639,7 +639,7 @@ fn macros_are_called(rt: HostRuntime) -> Result<(), Fail> {
 #[test]
 fn a_macro_calls_itself(rt: HostRuntime) -> Result<(), Fail> {
     let left = run_text(rt.alloc(), "def f=f enddef; f")?;
-    assert_eq!(rt; left.written.as_slice(), b"mpost: out of steps\n");
+    assert_eq!(rt; left.written.as_slice(), b"mpost: out of steps\n".as_slice());
     assert_eq!(rt; left.status, 3);
     assert_eq!(rt; left.steps, 10000000);
     Ok(())
