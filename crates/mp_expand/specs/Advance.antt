@@ -101,6 +101,7 @@ call_by other m = halt (not_built (name_of_definition (definition_of other)))
 
 -- a symbol by what it means
 abbrev pub symbol_expanded : ℕ → Meaning → Rule Step
+symbol_expanded symbol (meaning.Word word.Backslash) = give step.More
 symbol_expanded symbol (meaning.Word w) = reached (step.Front (front.Word symbol w))
 symbol_expanded symbol (meaning.Unbuilt name) = halt (not_built name)
 symbol_expanded symbol meaning.NewTag = reached (step.Front (front.Tag symbol))
