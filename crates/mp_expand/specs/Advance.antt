@@ -1,5 +1,5 @@
 -- Expansion: what comes of the next item, and of an answer.
-use Rattle.std.specs.Prelude.{ℕ, zero, suc, Bool, true, false, List, [], ◌∷◌, ◌++◌, Option, Some, None, codes}
+use Rattle.std.specs.Prelude.{ℕ, zero, suc, Bool, true, false, List, [], ◌∷◌, ◌++◌, Option, Some, None}
 use Rattle.mp_report.specs.declared.error.SourceError.TheVariants as error
 use Rattle.mp_values.specs.Outcome.{◌>>=◌, give, halt, change, Refused}
 use Rattle.mp_values.specs.Refusals.{bad_token, not_built, unexpected}
@@ -14,7 +14,6 @@ use Rattle.mp_values.specs.declared.meaning.Meaning.{Meaning}
 use Rattle.mp_values.specs.declared.meaning.Meaning.TheVariants as meaning
 use Rattle.mp_values.specs.declared.turn.Pending.{Pending}
 use Rattle.mp_values.specs.declared.turn.Pending.TheVariants as pending
-use Rattle.mp_values.specs.declared.value.Value.{Value}
 use Rattle.mp_values.specs.declared.word.Word.TheVariants as word
 use Rattle.mp_expand.specs.Expansion.{Rule, NewestWith, reading, opening, waiting, with_requests}
 use Rattle.mp_expand.specs.Steps.{take_first, leave}
@@ -23,7 +22,6 @@ use Rattle.mp_expand.specs.Calls.{are_pair, argument_next, with_request, needing
 use Rattle.mp_expand.specs.declared.front.Front.{Front}
 use Rattle.mp_expand.specs.declared.front.Front.TheVariants as front
 use Rattle.mp_expand.specs.declared.request.Delimited.{Delimited}
-use Rattle.mp_expand.specs.declared.request.Need.{Need}
 use Rattle.mp_expand.specs.declared.request.Need.TheVariants as need
 use Rattle.mp_expand.specs.declared.request.Request.{Request}
 use Rattle.mp_expand.specs.declared.step.Answer.{Answer}
@@ -101,6 +99,7 @@ call_by other m = halt (not_built (name_of_definition (definition_of other)))
 
 -- a symbol by what it means
 abbrev pub symbol_expanded : ℕ → Meaning → Rule Step
+symbol_expanded symbol (meaning.Word word.Backslash) = give step.More
 symbol_expanded symbol (meaning.Word w) = reached (step.Front (front.Word symbol w))
 symbol_expanded symbol (meaning.Unbuilt name) = halt (not_built name)
 symbol_expanded symbol meaning.NewTag = reached (step.Front (front.Tag symbol))

@@ -1,9 +1,8 @@
 -- Calls of macros: how one gets its arguments, and what stands in the text when it has them all.
 -- After Hobby, A User's Manual for MetaPost, section 10, and Knuth, METAFONT: The Program, part 25; the refusals are this
 -- project's own.
-use Rattle.std.specs.Prelude.{ℕ, ◌+◌, Bool, true, false, List, [], ◌∷◌, ◌++◌, Option, Some, None, nat_eq, ◌&&◌, slice_get}
-use Rattle.mp_report.specs.declared.error.SourceError.TheVariants as error
-use Rattle.mp_values.specs.Outcome.{◌>>=◌, give, halt, change, Refused}
+use Rattle.std.specs.Prelude.{◌+◌, Bool, List, [], ◌∷◌, ◌++◌, Option, Some, None, nat_eq, ◌&&◌, slice_get}
+use Rattle.mp_values.specs.Outcome.{◌>>=◌, give, halt, change}
 use Rattle.mp_values.specs.Refusals.{not_built}
 use Rattle.mp_values.specs.Substitution.{substitute}
 use Rattle.mp_values.specs.Words.{name_of_definition, definition_of}

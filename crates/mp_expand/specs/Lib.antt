@@ -3,3 +3,5 @@ pub mod Expansion
 pub mod Steps
 pub mod Calls
 pub mod Advance
+pub mod Holds
+pub mod Laws

@@ -1,13 +1,15 @@
 -- The single steps of an expander.
-use Rattle.std.specs.Prelude.{ℕ, List, [], ◌∷◌, ◌+◌, ◌-◌, Option, Some, None, Ok, Err, nat_lt, if◌then◌else◌}
+use Rattle.std.specs.Prelude.{ℕ, List, [], ◌∷◌, ◌++◌, ◌+◌, ◌-◌, Option, Some, None, Ok, Err, nat_lt, if◌then◌else◌}
 use Rattle.mp_report.specs.declared.place.Place.{Place}
 use Rattle.mp_report.specs.declared.error.Cap.TheVariants as cap
 use Rattle.mp_report.specs.declared.error.SourceError.TheVariants as error
+use Rattle.mp_tokens.specs.declared.token.Token.{Token}
+use Rattle.mp_values.specs.Items.{file_items}
 use Rattle.mp_values.specs.Outcome.{Refused, OutOfSteps}
 use Rattle.mp_values.specs.declared.item.Item.{Item}
 use Rattle.mp_values.specs.declared.turn.Pending.{Pending}
 use Rattle.mp_values.specs.declared.turn.Pending.TheVariants as pending
-use Rattle.mp_input.specs.Lines.{last_after, place_in}
+use Rattle.mp_input.specs.Lines.{items_pending, last_after, place_in}
 use Rattle.mp_expand.specs.Expansion.{Expansion, Rule}
 use Rattle.mp_expand.specs.declared.limits.TheConstants.{NESTING_LIMIT}
 
@@ -36,6 +38,10 @@ enter s =
 -- it was read
 abbrev pub leave : Expansion → Expansion
 leave s = record s { nesting = s.nesting - 1 }
+
+-- the items of the file of that number come to stand in front of the text, with its end
+abbrev pub start : ℕ → List Token → Expansion → Expansion
+start file tokens s = record s { text = items_pending (file_items file tokens) ++ s.text }
 
 -- an item comes to stand in front of the text
 abbrev pub put_back : Item → Expansion → Expansion

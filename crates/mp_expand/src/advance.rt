@@ -13,7 +13,7 @@ use crate::step::Step;
 use mp_report::SourceError;
 use mp_scaled::Shared;
 use mp_symbols::Symbols;
-use mp_values::{Arguments, Item, Level, Macro, Meaning, Pending, Stop};
+use mp_values::{Arguments, Item, Level, Macro, Meaning, Pending, Stop, Word};
 
 impl Expander {
     /// The next item: a front, an operand that is needed, or nothing yet. Line ends and file ends are passed over, and
@@ -71,6 +71,7 @@ impl Expander {
         ensures kept { self.new.budget ≡ self.old.budget }
     {
         let front = match meaning_of(table, symbol) {
+            Some(Meaning::Word(Word::Backslash)) => return Ok(Step::More),
             Some(Meaning::Word(word)) => Front::Word(symbol, *word),
             Some(Meaning::Unbuilt(word)) => return Err(Stop::not_built(self.alloc, word.name())),
             Some(Meaning::NewTag | Meaning::Tag(_)) | None => Front::Tag(symbol),

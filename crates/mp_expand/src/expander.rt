@@ -1,10 +1,8 @@
 //! The expander and its single steps.
 
-ghost use Rattle.std.specs.Prelude.{◌≡◌, ◌≤◌, [], ◌++◌, OnOk};
+ghost use Rattle.std.specs.Prelude.{◌≡◌, ◌≤◌, [], OnOk};
 ghost use Rattle.mp_values.specs.Ends.{IsNoEnd};
 ghost use Rattle.mp_values.specs.Outcome.{Yields, change};
-ghost use Rattle.mp_values.specs.Items.{file_items};
-ghost use Rattle.mp_input.specs.Lines.{items_pending};
 ghost use Rattle.mp_expand.specs.Steps as steps;
 
 use crate::NESTING_LIMIT;
@@ -69,9 +67,7 @@ impl Expander {
 
     /// Puts the items of the file of that number in front of the text, with its end.
     pub fn start(&mut self, file: u32, tokens: Shared<Tokens>) -> Result<(), NoMemory>
-        ensures ok { OnOk result (self.new ≡ record self.old {
-          text = items_pending (file_items file tokens) ++ self.old.text;
-        }) }
+        ensures ok { OnOk result (self.new ≡ steps.start file tokens self.old) }
         ensures kept { self.new.budget ≡ self.old.budget }
     {
         self.input.reserve(1)?;

@@ -14,6 +14,7 @@ mod answers;
 mod calls;
 mod expander;
 mod front;
+mod laws;
 mod limits;
 mod names;
 mod request;
@@ -23,6 +24,7 @@ mod texts;
 
 pub use expander::Expander;
 pub use front::Front;
+pub use laws::{expansion_invents_nothing, steps_are_counted};
 pub use limits::NESTING_LIMIT;
 pub use request::{Delimited, Need, Request};
 pub use step::{Answer, Step, Want};
