@@ -25,6 +25,11 @@ pub record Expansion : Type 0 where
 abbrev pub Rule : Type 0 → Type 0
 Rule A = RuleBy Cause Expansion A
 
+-- nothing is left to read: what remains where memory ran out
+pub record IsNothing (s : Expansion) : Type 0 where
+  pub text : s.text ≡ []
+  pub requests : s.requests ≡ []
+
 -- THE NEWEST CALL, BY WHAT IT NEEDS
 
 -- the newest call with something that it needs, and the others

@@ -1,5 +1,6 @@
--- That each item which an expansion speaks of is such as P says, and each symbol, as an item.
-use Rattle.std.specs.Prelude.{⊤, Option, Some, None, Ok, Err}
+-- That each item which an expansion speaks of is such as P says, and each symbol, as an item; and each internal, by its
+-- number, such as N says.
+use Rattle.std.specs.Prelude.{⊤, ℕ, Option, Some, None, Ok, Err}
 use Rattle.std.specs.List.{All}
 use Rattle.mp_values.specs.Outcome.{Cause, OutcomeBy}
 use Rattle.mp_values.specs.declared.item.Item.{Item}
@@ -21,7 +22,7 @@ use Rattle.mp_expand.specs.declared.request.Request.{Request}
 use Rattle.mp_expand.specs.declared.step.Step.{Step}
 use Rattle.mp_expand.specs.declared.step.Step.TheVariants as step
 
-module _ (P : Item → Type 0) where
+module _ (P : Item → Type 0) (N : ℕ → Type 0) where
   -- THE TEXT
 
   -- what a loop still goes over: its values are held as capsules
@@ -62,6 +63,7 @@ module _ (P : Item → Type 0) where
   -- THE NAMES
 
   abbrev pub HoldsMeaning : Meaning → Type 0
+  HoldsMeaning (meaning.Internal k) = N k
   HoldsMeaning (meaning.Left pair) = HoldsPair pair
   HoldsMeaning (meaning.Right pair) = HoldsPair pair
   HoldsMeaning (meaning.Macro m) = All P m.body
@@ -72,11 +74,10 @@ module _ (P : Item → Type 0) where
 
   -- STEPS
 
-  -- nothing is said of the number of an internal
   abbrev pub HoldsFront : Front → Type 0
   HoldsFront (front.Word symbol w) = P (item.Symbol symbol)
   HoldsFront (front.Tag symbol) = P (item.Symbol symbol)
-  HoldsFront (front.Internal symbol k) = P (item.Symbol symbol)
+  HoldsFront (front.Internal symbol k) = P (item.Symbol symbol) × N k
   HoldsFront (front.Left symbol pair) = P (item.Symbol symbol) × HoldsPair pair
   HoldsFront (front.Right symbol pair) = P (item.Symbol symbol) × HoldsPair pair
   HoldsFront other = ⊤

@@ -1,5 +1,5 @@
 -- Laws of expansion: it invents no item, and each item that it takes is counted.
-use Rattle.std.specs.Prelude.{◌≡◌, ◌≢◌, ◌≤◌, ⊤, ℕ, ◌+◌, ◌-◌, List, Option, Some, None, Ok, Err}
+use Rattle.std.specs.Prelude.{◌≡◌, ◌≢◌, ◌≤◌, ◌<◌, ⊤, ℕ, ◌+◌, ◌-◌, List, Option, Some, None, Ok, Err}
 use Rattle.std.specs.List.{All}
 use Rattle.mp_tokens.specs.declared.token.Token.{Token}
 use Rattle.mp_values.specs.Items.{file_items}
@@ -23,21 +23,21 @@ use Rattle.mp_expand.specs.declared.step.Step.TheVariants as step
 -- NO ITEM IS INVENTED
 
 -- what holds of each item that there is holds of each that is left and given
-pub record InventsNothingOf (P : Item → Type 0) : Type 0 where
-  pub taken : (s : Expansion) → Holds P s → HoldsAfter P (HoldsFirst P) (take_first s)
-  pub advanced : (table : Table) (s : Expansion) → HoldsTable P table → Holds P s → HoldsAfter P (HoldsStep P) (advance table s)
-  pub answered : (table : Table) (a : Answer) (x : Front) (s : Expansion) → All P (items_of a) → Holds P s
-      → HoldsAfter P (HoldsStep P) (answered table a x s)
-  pub called : (m : Macro) (got : List (List Item)) (s : Expansion) → All P m.body → All (All P) got → Holds P s
-      → HoldsAfter P (λ called. ⊤) (call m got s)
-  pub entered : (s : Expansion) → Holds P s → HoldsAfter P (λ entered. ⊤) (enter s)
-  pub put_back : (x : Item) (s : Expansion) → P x → Holds P s → Holds P (put_back x s)
-  pub started : (file : ℕ) (tokens : List Token) (s : Expansion) → All P (file_items file tokens) → Holds P s → Holds P (start file tokens s)
+pub record InventsNothingOf (P : Item → Type 0) (N : ℕ → Type 0) : Type 0 where
+  pub taken : (s : Expansion) → Holds P N s → HoldsAfter P N (HoldsFirst P N) (take_first s)
+  pub advanced : (table : Table) (s : Expansion) → HoldsTable P N table → Holds P N s → HoldsAfter P N (HoldsStep P N) (advance table s)
+  pub answered : (table : Table) (a : Answer) (x : Front) (s : Expansion) → All P (items_of a) → Holds P N s
+      → HoldsAfter P N (HoldsStep P N) (answered table a x s)
+  pub called : (m : Macro) (got : List (List Item)) (s : Expansion) → All P m.body → All (All P) got → Holds P N s
+      → HoldsAfter P N (λ called. ⊤) (call m got s)
+  pub entered : (s : Expansion) → Holds P N s → HoldsAfter P N (λ entered. ⊤) (enter s)
+  pub put_back : (x : Item) (s : Expansion) → P x → Holds P N s → Holds P N (put_back x s)
+  pub started : (file : ℕ) (tokens : List Token) (s : Expansion) → All P (file_items file tokens) → Holds P N s → Holds P N (start file tokens s)
   pub substituted : (body : List Item) (arguments : List (List Item)) → All P body → All (All P) arguments → All P (substitute body arguments)
 
--- so whatever number items have, it stays within what bounds it
+-- so whatever number items have, it stays within what bounds it, and so do the numbers of internals
 abbrev pub InventsNothing : Type 0
-InventsNothing = (f : Item → ℕ) (n : ℕ) → InventsNothingOf (λ x. f x ≤ n)
+InventsNothing = (f : Item → ℕ) (n m : ℕ) → InventsNothingOf (λ x. f x ≤ n) (λ k. k < m)
 
 -- STEPS ARE COUNTED
 

@@ -1,9 +1,10 @@
 //! Expansion: what comes of the next item.
 
-ghost use Rattle.std.specs.Prelude.{◌≡◌, Option, None};
+ghost use Rattle.std.specs.Prelude.{◌≡◌, Option, None, Err};
 ghost use Rattle.mp_values.specs.Outcome.{Yields};
 ghost use Rattle.mp_expand.specs.Advance as advance;
 ghost use Rattle.mp_expand.specs.Fronts as fronts;
+ghost use Rattle.mp_expand.specs.Expansion.{IsNothing};
 
 use crate::Front;
 use crate::expander::Expander;
@@ -18,8 +19,23 @@ use mp_values::{Arguments, Item, Level, Macro, Meaning, Pending, Stop, Word};
 impl Expander {
     /// The next item: a front, an operand that is needed, or nothing yet. Line ends and file ends are passed over, and
     /// macros are called. A bad token, a word that is not built, and what stands where a call cannot go on, are refused.
-    #[tactic(auto, unfolding(crate::specs::Advance::advance))]
+    /// Where memory ran out nothing is left to read.
     pub fn next(&mut self, table: &Symbols<Meaning>) -> Result<Step, Stop>
+        ensures exact { Yields result self.new (advance.advance table.now.names self.old) }
+        ensures kept { self.new.budget ≡ self.old.budget }
+        ensures starved { result ≡ Err Stop.NoMemory → IsNothing self.new }
+    {
+        match self.step(table) {
+            Err(Stop::NoMemory) => {
+                self.give_up();
+                Err(Stop::NoMemory)
+            }
+            result => result,
+        }
+    }
+
+    #[tactic(auto, unfolding(crate::specs::Advance::advance))]
+    fn step(&mut self, table: &Symbols<Meaning>) -> Result<Step, Stop>
         ensures exact { Yields result self.new (advance.advance table.now.names self.old) }
         ensures kept { self.new.budget ≡ self.old.budget }
     {

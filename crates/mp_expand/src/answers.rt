@@ -1,8 +1,9 @@
 //! Expansion: what comes of an answer.
 
-ghost use Rattle.std.specs.Prelude.{◌≡◌, IfOk};
+ghost use Rattle.std.specs.Prelude.{◌≡◌, IfOk, Err};
 ghost use Rattle.mp_values.specs.Outcome.{Yields};
 ghost use Rattle.mp_expand.specs.Advance as advance;
+ghost use Rattle.mp_expand.specs.Expansion.{IsNothing};
 
 use crate::Front;
 use crate::calls::are_pair;
@@ -32,11 +33,31 @@ fn items_of(alloc: Global, answer: Answer) -> Result<Shared<Items>, NoMemory>
 
 impl Expander {
     /// The newest call gets what it waits for, with the front that stands behind it, which is used up: it asks for more,
-    /// or goes on with the text. An answer that no call waits for does nothing.
+    /// or goes on with the text. An answer that no call waits for does nothing. Where memory ran out nothing is left to
+    /// read.
     ///
     /// `BadArguments` where an argument is missing or in excess, `Unexpected` where the last one is not closed.
-    #[tactic(auto, unfolding(crate::specs::Advance::answered))]
     pub fn answer(
+        &mut self,
+        table: &Symbols<Meaning>,
+        answer: Answer,
+        front: Front,
+    ) -> Result<Step, Stop>
+        ensures exact { Yields result self.new (advance.answered table.now.names answer front self.old) }
+        ensures kept { self.new.budget ≡ self.old.budget }
+        ensures starved { result ≡ Err Stop.NoMemory → IsNothing self.new }
+    {
+        match self.answered(table, answer, front) {
+            Err(Stop::NoMemory) => {
+                self.give_up();
+                Err(Stop::NoMemory)
+            }
+            result => result,
+        }
+    }
+
+    #[tactic(auto, unfolding(crate::specs::Advance::answered))]
+    fn answered(
         &mut self,
         table: &Symbols<Meaning>,
         answer: Answer,

@@ -1,8 +1,9 @@
 //! Calls of macros: how one gets its arguments, and what stands in the text when it has them all.
 
-ghost use Rattle.std.specs.Prelude.{◌≡◌, IfOk};
+ghost use Rattle.std.specs.Prelude.{◌≡◌, IfOk, Err};
 ghost use Rattle.mp_values.specs.Outcome.{Yields, change};
 ghost use Rattle.mp_expand.specs.Calls as calls;
+ghost use Rattle.mp_expand.specs.Expansion.{IsNothing};
 
 use crate::expander::Expander;
 use crate::request::{Delimited, Need, Request};
@@ -92,8 +93,23 @@ impl Expander {
         }
     }
 
-    /// Calls a macro, with the arguments that its body has before the first parameter.
+    /// Calls a macro, with the arguments that its body has before the first parameter. Where memory ran out nothing is
+    /// left to read.
     pub fn call(&mut self, called: Shared<Macro>, got: Arguments) -> Result<(), Stop>
+        ensures exact { Yields result self.new (calls.call called got self.old) }
+        ensures kept { self.new.budget ≡ self.old.budget }
+        ensures starved { result ≡ Err Stop.NoMemory → IsNothing self.new }
+    {
+        match self.begin_call(called, got) {
+            Err(Stop::NoMemory) => {
+                self.give_up();
+                Err(Stop::NoMemory)
+            }
+            result => result,
+        }
+    }
+
+    pub(crate) fn begin_call(&mut self, called: Shared<Macro>, got: Arguments) -> Result<(), Stop>
         ensures exact { Yields result self.new (calls.call called got self.old) }
         ensures kept { self.new.budget ≡ self.old.budget }
     {

@@ -1,8 +1,9 @@
 //! The expander and its single steps.
 
-ghost use Rattle.std.specs.Prelude.{◌≡◌, ◌≤◌, [], OnOk};
+ghost use Rattle.std.specs.Prelude.{◌≡◌, ◌≤◌, [], OnOk, Err};
 ghost use Rattle.mp_values.specs.Ends.{IsNoEnd};
 ghost use Rattle.mp_values.specs.Outcome.{Yields, change};
+ghost use Rattle.mp_expand.specs.Expansion.{IsNothing};
 ghost use Rattle.mp_expand.specs.Steps as steps;
 
 use crate::NESTING_LIMIT;
@@ -65,6 +66,15 @@ impl Expander {
         }
     }
 
+    /// Nothing is left to read, where memory ran out.
+    pub(crate) fn give_up(&mut self)
+        ensures nothing { IsNothing self.new }
+        ensures kept { self.new.budget ≡ self.old.budget }
+    {
+        self.input = Input::new(self.alloc);
+        self.requests = Vec::new(self.alloc);
+    }
+
     /// Puts the items of the file of that number in front of the text, with its end.
     pub fn start(&mut self, file: u32, tokens: Shared<Tokens>) -> Result<(), NoMemory>
         ensures ok { OnOk result (self.new ≡ steps.start file tokens self.old) }
@@ -81,6 +91,7 @@ impl Expander {
         ensures exact { Yields result self.new (steps.take_first self.old) }
         ensures kept { self.new.budget ≡ self.old.budget }
         ensures requests { self.new.requests ≡ self.old.requests }
+        ensures starved { result ≡ Err Stop.NoMemory → self.new.text ≡ self.old.text }
     {
         if self.steps < self.budget {
             match self.input.take()? {
@@ -101,7 +112,7 @@ impl Expander {
     #[tactic(auto, unfolding(crate::specs::Steps::enter))]
     pub fn enter(&mut self) -> Result<(), Stop>
         ensures exact { Yields result self.new (steps.enter self.old) }
-        ensures kept { self.new.budget ≡ self.old.budget }
+        ensures rest { self.new ≡ record self.old { nesting = self.new.nesting } }
     {
         if self.nesting >= NESTING_LIMIT {
             return Err(Stop::Refused(SourceError::Limit(Cap::Nesting, NESTING_LIMIT)));
