@@ -23,7 +23,7 @@ use Rattle.mp_vartree.specs.Laws.{held}
 use Rattle.mp_symbols.specs.Tables.{Table}
 use Rattle.mp_acts.specs.Counts.{IsWithin}
 use Rattle.mp_acts.specs.State.{State, counts_of}
-use Rattle.mp_acts.specs.Reach.{reach_of_form, reach_of_known, reach_of_variable, reach_of_slot, AreWithin}
+use Rattle.mp_acts.specs.Reach.{reach_of_form, reach_of_known, reach_of_variable, reach_of_declared, reach_of_slot, AreWithin}
 use Rattle.mp_acts.specs.Kept.{IsKept}
 use Rattle.mp_acts.specs.Operands.{or_refused}
 use Rattle.mp_acts.specs.Equations.{IsAnswer}
@@ -110,6 +110,7 @@ equation_keeps states after variables slots symbols residual answer is h e =
         words = is.words;
         forms = All-weaker (λ known. reach_of_known known ≤ length states) (λ known. reach_of_known known ≤ length after) (λ known h. omega arith) after forms;
         held = λ name. within_more (reach_of_variable (held variables name)) old new (is.held name) more;
+        macros = all_more (λ entry. reach_of_declared entry.1) variables.declarations old new more is.macros;
         filled = all_more reach_of_slot slots old new more is.filled;
         meanings = meanings_more symbols.names old new more is.meanings;
         saved = saved_more symbols.saved old new more is.saved;

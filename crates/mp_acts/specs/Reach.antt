@@ -10,6 +10,7 @@ use Rattle.mp_solver.specs.declared.fresh.Fresh.{Fresh}
 use Rattle.mp_solver.specs.declared.fresh.Fresh.TheVariants.{Made, Limit}
 use Rattle.mp_values.specs.declared.item.Item.{Item}
 use Rattle.mp_values.specs.declared.item.Item.TheVariants as item
+use Rattle.mp_values.specs.declared.macros.Macro.{Macro}
 use Rattle.mp_values.specs.declared.meaning.Meaning.{Meaning}
 use Rattle.mp_values.specs.declared.meaning.Meaning.TheVariants as meaning
 use Rattle.mp_values.specs.declared.meaning.Delimiters.{Delimiters}
@@ -17,10 +18,12 @@ use Rattle.mp_values.specs.declared.value.Value.{Value}
 use Rattle.mp_values.specs.declared.value.Value.TheVariants.{Boolean, Numeric, Text, Unset, Vacuous}
 use Rattle.mp_vartree.specs.Variables.{Variables}
 use Rattle.mp_vartree.specs.Laws.{held}
+use Rattle.mp_vartree.specs.declared.entry.Declared.{Declared}
+use Rattle.mp_vartree.specs.declared.entry.Declared.TheVariants as declared
 use Rattle.mp_vartree.specs.declared.entry.Variable.{Variable}
 use Rattle.mp_vartree.specs.declared.names.Part.{Part}
 use Rattle.mp_vartree.specs.declared.names.Part.TheVariants as part
-use Rattle.mp_acts.specs.Counts.{Counts, nothing, most, IsWithin}
+use Rattle.mp_acts.specs.Counts.{Counts, nothing, most, greatest, IsWithin}
 use Rattle.mp_acts.specs.State.{counts_of}
 use Rattle.mp_acts.specs.declared.target.Target.{Target}
 use Rattle.mp_acts.specs.declared.target.Target.TheVariants as target
@@ -90,7 +93,10 @@ reach_of_target (target.Internal k) = one_internal k
 abbrev pub reach_of_pair : Delimiters → Counts
 reach_of_pair pair = most (one_symbol pair.left) (one_symbol pair.right)
 
--- what the body of a macro speaks of is not counted: no body is put into a text yet
+-- a macro speaks of what the items of its body do, which a call puts into the text
+abbrev pub reach_of_macro : Macro → Counts
+reach_of_macro m = greatest reach_of_item m.body
+
 abbrev pub reach_of_meaning : Meaning → Counts
 reach_of_meaning (meaning.Word w) = nothing
 reach_of_meaning (meaning.Unbuilt name) = nothing
@@ -99,7 +105,7 @@ reach_of_meaning (meaning.Tag root) = nothing
 reach_of_meaning (meaning.Internal k) = one_internal k
 reach_of_meaning (meaning.Left pair) = reach_of_pair pair
 reach_of_meaning (meaning.Right pair) = reach_of_pair pair
-reach_of_meaning (meaning.Macro m) = nothing
+reach_of_meaning (meaning.Macro m) = reach_of_macro m
 
 -- WHAT A STATE HOLDS
 
@@ -107,6 +113,11 @@ reach_of_meaning (meaning.Macro m) = nothing
 abbrev pub reach_of_variable : Option Variable → Counts
 reach_of_variable None = nothing
 reach_of_variable (Some x) = reach x.value
+
+-- what was declared of variables
+abbrev pub reach_of_declared : Declared → Counts
+reach_of_declared (declared.Typed kind) = nothing
+reach_of_declared (declared.Macro m) = reach_of_macro m
 
 -- what stands in a slot
 abbrev pub reach_of_slot : Option Value → Counts
@@ -119,14 +130,15 @@ reach_of_saved saved.Boundary = nothing
 reach_of_saved (saved.Meaning symbol old) = reach_of_meaning old
 reach_of_saved (saved.Number k old) = nothing
 
--- the variables, the slots, the forms that unknowns equal, and the meanings of symbols, now and when a group has ended,
--- speak of what there is alone; there are no more unknowns than can be made, and the parentheses and the words of groups
--- have symbols
+-- the variables, the macros that were declared of them, the slots, the forms that unknowns equal, and the meanings of
+-- symbols, now and when a group has ended, speak of what there is alone; there are no more unknowns than can be made, and
+-- the parentheses and the words of groups have symbols
 pub record AreWithin (unknowns : States) (variables : Variables) (slots : List (Option Value)) (symbols : Table Meaning) : Type 0 where
   pub few : length unknowns ≤ UNKNOWN_LIMIT
   pub words : 4 ≤ length symbols.names
   pub forms : All (λ known. reach_of_known known ≤ length unknowns) unknowns
   pub held : (name : List Part) → IsWithin (reach_of_variable (held variables name)) (counts_of unknowns slots symbols)
+  pub macros : All (λ entry. IsWithin (reach_of_declared entry.1) (counts_of unknowns slots symbols)) variables.declarations
   pub filled : All (λ slot. IsWithin (reach_of_slot slot) (counts_of unknowns slots symbols)) slots
   pub meanings : All (λ entry. IsWithin (reach_of_meaning entry.1) (counts_of unknowns slots symbols)) symbols.names
   pub saved : All (λ entry. IsWithin (reach_of_saved entry) (counts_of unknowns slots symbols)) symbols.saved

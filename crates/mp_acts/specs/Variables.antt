@@ -2,6 +2,7 @@
 -- After Knuth, METAFONT: The Program, parts 15 and 43; nameless unknowns, and slots in the place of rings, are this project's own.
 use Rattle.std.specs.Prelude.{◌≡◌, ◌⊎◌, ℕ, pos, Bool, true, false, cond, nat_le, ◌&&◌, List, [], ◌∷◌, ◌++◌, Option, Some, None, Result, Ok, Err, length, codes}
 use Rattle.std.specs.List.{fold}
+use Rattle.std.specs.Option.{option_map}
 use Rattle.mp_forms.specs.Forms.{LinearForm}
 use Rattle.mp_solver.specs.States.{Unknowns, fresh_of, unnamed}
 use Rattle.mp_solver.specs.declared.fresh.Fresh.{Fresh}
@@ -11,12 +12,10 @@ use Rattle.mp_report.specs.declared.error.Cap.TheVariants as cap
 use Rattle.mp_report.specs.declared.error.SourceError.TheVariants as error
 use Rattle.mp_symbols.specs.Groups.{with_symbol, with_internal}
 use Rattle.mp_values.specs.Outcome.{Outcome, Rule, ◌>>=◌, give, halt, change}
-use Rattle.mp_values.specs.Refusals.{wrong_type, unbuilt}
-use Rattle.mp_values.specs.Words.{name_of_definition}
+use Rattle.mp_values.specs.Refusals.{wrong_type}
 use Rattle.mp_values.specs.declared.macros.Level.{Level}
 use Rattle.mp_values.specs.declared.macros.Level.TheVariants as level
 use Rattle.mp_values.specs.declared.macros.Macro.{Macro}
-use Rattle.mp_values.specs.declared.word.Definition.TheVariants as definition
 use Rattle.mp_macro.specs.declared.defined.Defined.{Defined}
 use Rattle.mp_values.specs.declared.meaning.Meaning.{Meaning}
 use Rattle.mp_values.specs.declared.meaning.Meaning.TheVariants as meaning
@@ -188,13 +187,9 @@ define_by level.Tertiary d = change (with_macro d.symbol d.value)
 unfoldable pub define : Defined → Rule State (Unit {0})
 define d = define_by d.value.level d
 
-abbrev pub uncalled : Option (Macro × ℕ) → Rule State (Unit {0})
-uncalled (Some m) = halt (unbuilt (name_of_definition definition.Vardef))
-uncalled None = give tt
-
--- a name that begins with that of a macro is a call, which is not built
-unfoldable pub no_call : ℕ → List Part → Rule State (Unit {0})
-no_call root name s = uncalled (macro_of s.variables root name) s
+-- a name that begins with that of a macro is a call: of the shortest beginning that is a macro's
+abbrev pub macro_named : State → ℕ → List Part → Option Macro
+macro_named s root name = option_map (λ m. m.0) (macro_of s.variables root name)
 
 -- ASSIGNMENTS
 

@@ -14,8 +14,8 @@ use std::marker::Model;
 
 /// What statements act on. Contracts see the symbols, the variables, the slots, the unknowns, the events and the lines.
 ///
-/// The variables, the slots and the meanings of symbols speak of nothing that there is not, and the unknowns are what the
-/// events, and no others, have made of them.
+/// The variables, the macros, the slots and the meanings of symbols speak of nothing that there is not, and the unknowns
+/// are what the events, and no others, have made of them.
 #[derive(Drop)]
 pub struct State {
     pub(crate) alloc: Global,

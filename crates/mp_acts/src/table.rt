@@ -1,6 +1,6 @@
 //! The table of names of a state: its changes, each of which leaves meanings that speak of what there is.
 
-ghost use Rattle.std.specs.Prelude.{◌≡◌, ◌<◌, ◌++◌, [], ◌∷◌, length, IfOk, OnOk, OnErr};
+ghost use Rattle.std.specs.Prelude.{◌≡◌, ◌<◌, ◌++◌, [], ◌∷◌, length, All, IfOk, OnOk, OnErr};
 ghost use Rattle.mp_symbols.specs.Groups as table;
 ghost use Rattle.mp_values.specs.declared.meaning.Meaning.TheVariants.{NewTag};
 ghost use Rattle.mp_acts.specs.Counts.{IsWithin};
@@ -10,10 +10,18 @@ ghost use Rattle.mp_acts.specs.State.{counts, symbol_count, internal_count};
 
 use crate::State;
 use mp_scaled::NoMemory;
-use mp_symbols::Closed;
+use mp_symbols::{Closed, Symbols};
 use mp_values::Meaning;
 
 impl State {
+    /// The table, which is lent.
+    pub fn table(&self) -> &Symbols<Meaning>
+        ensures exact { result.now ≡ self.now.symbols }
+        ensures within { All (λ entry. IsWithin (reach_of_meaning entry.1) (counts self.now)) result.now.names }
+    {
+        &self.symbols
+    }
+
     /// Gives a symbol another meaning.
     #[tactic(auto, using(crate::proofs::MeaningLemmas::more_set))]
     pub(crate) fn set_meaning(&mut self, symbol: u32, new: Meaning)

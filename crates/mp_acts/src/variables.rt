@@ -11,7 +11,7 @@ ghost use Rattle.mp_vartree.specs.Kinds.{kind_of, is_kind};
 ghost use Rattle.mp_vartree.specs.Variables.{variable_at, wanted_kind, declare, define_macro};
 ghost use Rattle.mp_acts.specs.Counts.{IsWithin, greatest, nothing};
 ghost use Rattle.mp_acts.specs.State.{unknown_count, symbol_count, internal_count, symbol_name, symbol_meaning, internal_value, counts};
-ghost use Rattle.mp_acts.specs.Reach.{reach, reach_of_serial, reach_of_fresh, reach_of_part, reach_of_target, reach_of_meaning};
+ghost use Rattle.mp_acts.specs.Reach.{reach, reach_of_serial, reach_of_fresh, reach_of_part, reach_of_target, reach_of_macro, reach_of_meaning};
 ghost use Rattle.mp_acts.specs.Arithmetic.{known_number};
 ghost use Rattle.mp_acts.specs.Variables as variables;
 ghost use Rattle.mp_acts.specs.Variables.{IsReadInPart, IsForgetting, is_tag};
@@ -23,7 +23,7 @@ use mp_macro::Defined;
 use mp_report::{Cap, SourceError};
 use mp_scaled::{Bytes, NoMemory, Shared};
 use mp_solver::{Fresh, System, UNKNOWN_LIMIT};
-use mp_values::{Definition, Fault, Kind, Level, Macro, Meaning, Value};
+use mp_values::{Fault, Kind, Level, Macro, Meaning, Value};
 use mp_vartree::{BadDeclaration, Part, Shape, Variable, has_kind, variables_are_a_map};
 use std::alloc::Global;
 use std::snapshot::Snapshot;
@@ -261,7 +261,8 @@ impl State {
         name: &[Shape],
         m: Shared<Macro>,
     ) -> Result<(), Fault>
-        requires { symbol < symbol_count self.old }
+        requires symbol { symbol < symbol_count self.old }
+        requires within { IsWithin (reach_of_macro m) (counts self.old) }
         ensures exact { Gives result self.new (variables.define_variable symbol name.now m self.old) }
         ensures whole { IsWhole result self.old self.new }
         ensures counts { IsWithin (counts self.old) (counts self.new) }
@@ -281,7 +282,8 @@ impl State {
     /// all below them: `BadDeclaration` below the name of a macro, and then nothing changes.
     #[tactic(auto, unfolding(crate::specs::Variables::define))]
     pub fn do_define(&mut self, made: Defined) -> Result<(), Fault>
-        requires { made.symbol < symbol_count self.old }
+        requires symbol { made.symbol < symbol_count self.old }
+        requires within { IsWithin (reach_of_macro made.value) (counts self.old) }
         ensures exact { Gives result self.new (variables.define made self.old) }
         ensures whole { IsWhole result self.old self.new }
         ensures counts { IsWithin (counts self.old) (counts self.new) }
@@ -302,14 +304,14 @@ impl State {
         }
     }
 
-    /// Refuses a name that begins with that of a macro: calls are not built.
-    #[tactic(auto, unfolding(crate::specs::Variables::no_call))]
-    pub fn no_call(&self, root: u32, name: &[Part]) -> Result<(), Fault>
-        ensures { Gives result self.now (variables.no_call root name.now self.now) }
+    /// The macro that a name begins with, which is lent: that of the shortest beginning that is a macro's name.
+    pub fn macro_named(&self, root: u32, name: &[Part]) -> Option<&Shared<Macro>>
+        ensures exact { option_map (λ m. m.now) result ≡ variables.macro_named self.now root name.now }
+        ensures within { IfSome result (λ m. IsWithin (reach_of_macro m.now) (counts self.now)) }
     {
         match self.variables.macro_of(root, name) {
-            Some(_) => Err(Fault::not_built(self.alloc, Definition::Vardef.name())),
-            None => Ok(()),
+            Some((m, _)) => Some(m),
+            None => None,
         }
     }
 
@@ -351,6 +353,7 @@ impl State {
         name: &[Shape],
         m: Shared<Macro>,
     ) -> Result<Result<(), BadDeclaration>, NoMemory>
+        requires { IsWithin (reach_of_macro m) (counts self.old) }
         ensures exact { IfOk result (λ answer. (answer, self.new.variables)
             ≡ define_macro self.old.variables root name.now m) }
         ensures rest { self.new ≡ record self.old { variables = self.new.variables } }

@@ -1,5 +1,5 @@
 -- The items of a body are those that were read, parameters, and the two symbols of a group.
-use Rattle.std.proofs.Common.{◌≡◌, ◌≤◌, ℕ, zero, suc, Ok, Err, true, false, Some, None, Option, Bool, List, [], ◌∷◌, ◌++◌, length, nat_lt, refl, sym, subst}
+use Rattle.std.proofs.Common.{◌≡◌, ◌≤◌, ℕ, zero, suc, Ok, Err, true, false, Some, None, Option, Bool, [], ◌∷◌, ◌++◌, length, nat_lt, refl, sym, subst}
 use Rattle.std.specs.List.{All}
 use Rattle.std.proofs.lemmas.List.Elements.{All-nil, All-push, All-append}
 use Rattle.mp_values.specs.Outcome.{Outcome, Rule, then}

@@ -11,6 +11,7 @@ invariant_of-result c = record {
     words = first_words _ c.in_ok-first_symbols.ensures;
     forms = search rules;
     held = search rules;
+    macros = search rules;
     filled = search rules;
     meanings = first_meanings _ _ _ c.in_ok-first_symbols.ensures;
     saved = first_saved _ _ c.in_ok-first_symbols.ensures;
