@@ -51,7 +51,7 @@ of_text : {A : Type 0} (o : OutcomeBy Cause Expansion A) (x : A) (s t : Machine)
 of_text {A = A} (Ok y) x s t e = ap (λ (p : A × Machine). in_expander p) (ok_is e)
 of_text (Err y) x s t e = absurd (err_is_not e)
 
-rest_is : (x : Pending) (s t : Machine) → expanding expanding take_first s ≡ Ok (Some x, t) → s.expander.text ≡ x ∷ t.expander.text
+rest_is : (x : Pending) (s t : Machine) → expanding take_first s ≡ Ok (Some x, t) → s.expander.text ≡ x ∷ t.expander.text
 unfolding take_first
 rest_is x s t e = rest_from s.expander.text x s.expander t.expander (of_text (take_from s.expander.text s.expander) (Some x) s t e)
 

@@ -71,7 +71,8 @@ use Rattle.mp_rules.specs.declared.named.Named.{Named}
 use Rattle.mp_rules.specs.declared.named.Named.TheVariants as named
 use Rattle.mp_rules.specs.Rules.{Rules, What, NextFront, NextRaw, Operand, NumberThen, Factor, VariableName, NameFrom, Suffix, Group, PrimaryInside, Primary, LeadingInside, Leading, SecondaryRest, Secondary, TertiaryRest, ExpressionFrom, Expression, ChainSide, ChainRest, Chain, ShowList, SymbolList, DeclaredName, TypeList, CommandRest, Statement, GroupStatements, Statements}
 use Rattle.mp_rules.specs.Rules.{shape_of, step_by, held_or_taken, next_front, item_of_part, operand_of, wanted_by, operand, raw_of, next_raw, symbol_in, raw_symbol, next_primary, next_expression, factor_by, over_by, then_by, number, room_by, room_for_part, part_on, bracket_by, bracketed, part_used, part_by, suffix_by, suffix, called_with, called_by, name_on, name_from_by, variable_name, variable_named, or_begun_anew, variable, closed_if, closed_by, parenthesis, group, string_primary, value_primary, internal, str_primary, applied, applied_by, primary_by, primary, variable_side_by, internal_side_by, leading_named, leading_by, leading, secondary_by, secondary, tertiary_by, expression_from, expression, side_from, chain_side, chain_on, lone_or_vacuous, chain_end, chain_by, chain, show_by, show_list, symbols_by, symbol_list, shape_on, empty_by, name_by, type_by, type_list, is_equals, equals_by, equals_in, raw_equals, let_equal, delimiter_pair, then_next, internal_in, assign_in, internal_name, assign_sign, interim_value, spoken, command_rest, definition, chain_if, statement_by, may_stand_alone, more_by, group_more, group_by, group_statements, end_by, statements, case}
-use Rattle.mp_rules.specs.Promises.{from, cost, cost_of_step, used_by, used_by_side, used_by_part, used_by_step}
+use Rattle.mp_expand.specs.Laws.{cost, cost_of_first}
+use Rattle.mp_rules.specs.Promises.{from, used_by, used_by_side, used_by_part, used_by_step}
 use Rattle.mp_rules.specs.Meaning.{rule, the, depth}
 use Rattle.mp_rules.proofs.Agreement.{After, Agree, AsMany, agree-then, weaker, stopped, given, acted}
 use Rattle.mp_rules.proofs.Ranks.{measure, deep}
@@ -106,7 +107,7 @@ cost_of_item (item.LineEnd place) = omega arith
 cost_of_item item.FileEnd = omega arith
 cost_of_item item.EndOfText = omega arith
 
-cost_of_taken : (x : Option Pending) → taken_cost (taken_as x) ≤ cost x
+cost_of_taken : (x : Option Pending) → taken_cost (taken_as x) ≤ cost_of_first x
 cost_of_taken (Some (pending.Item x)) = cost_of_item x
 cost_of_taken (Some (pending.Turn turn)) = omega arith
 cost_of_taken None = omega arith
@@ -128,7 +129,7 @@ weight_small front.EndOfText = omega arith
 seen : (x : Front) (b : ℕ) (t : Machine) → coming t + weight x ≤ b → Agree {A = Unit {0}} (Ok (tt, see x t)) (Ok (tt, see x t)) (λ next. Fewer b)
 seen x b t p = given tt (see x t) (λ next. Fewer b) (record { went = omega arith })
 
-front_cost : (x : Front) → weight x ≤ cost_of_step (step.Front x)
+front_cost : (x : Front) → weight x ≤ cost (step.Front x)
 front_cost (front.Number n) = omega arith
 front_cost front.Text = omega arith
 front_cost front.Capsule = omega arith
@@ -139,10 +140,10 @@ front_cost (front.Left symbol pair) = omega arith
 front_cost (front.Right symbol pair) = omega arith
 front_cost front.EndOfText = omega arith
 
-step_by-agrees : (r1 r2 : Rules) (x : Step) (b : ℕ) (t : Machine) → coming t + cost_of_step x ≤ b → Below r1 r2 (64 * b)
+step_by-agrees : (r1 r2 : Rules) (x : Step) (b : ℕ) (t : Machine) → coming t + cost x ≤ b → Below r1 r2 (64 * b)
     → Agree (step_by r1 x t) (step_by r2 x t) (λ next. Fewer b)
 step_by-agrees r1 r2 step.More b t p h = weaker (h.at NextFront t (omega arith)) (λ next u q. record { went = omega arith })
-step_by-agrees r1 r2 (step.Front x) b t p h = let small : weight x ≤ cost_of_step (step.Front x) = front_cost x in seen x b t (omega arith)
+step_by-agrees r1 r2 (step.Front x) b t p h = let small : weight x ≤ cost (step.Front x) = front_cost x in seen x b t (omega arith)
 step_by-agrees r1 r2 (step.Text bytes) b t p h = given tt (see_string bytes t) (λ next. Fewer b) (record { went = omega arith })
 step_by-agrees r1 r2 (step.Capsule v) b t p h = given tt (see_value v t) (λ next. Fewer b) (record { went = omega arith })
 step_by-agrees r1 r2 (step.Want w) b t p h =
@@ -189,7 +190,7 @@ raw_of-agrees r1 r2 taken.Passed s t k p c e h = weaker (h.at NextRaw t (omega a
 next_raw-agrees : (r1 r2 : Rules) (s : Machine) → Below r1 r2 (64 * coming s) → Agree (next_raw r1 s) (next_raw r2 s) (λ next. Fewer (coming s))
 next_raw-agrees r1 r2 s h =
     let used : Machine = see front.EndOfText s in
-    agree-then (took used) (λ x t p. raw_of-agrees r1 r2 (taken_as x) used t (cost x) p.went (cost_of_taken x) p.hand h)
+    agree-then (took used) (λ x t p. raw_of-agrees r1 r2 (taken_as x) used t (cost_of_first x) p.went (cost_of_taken x) p.hand h)
 
 symbol_in-agrees : (x : Raw) (s : Machine) → Agree (symbol_in x s) (symbol_in x s) (λ symbol. AsMany s)
 symbol_in-agrees (raw.Symbol symbol) s = given symbol s (λ x. AsMany s) (record { went = refl; hand = refl })

@@ -1,5 +1,6 @@
 -- On the text within a run: how far the expander goes.
-use Rattle.std.proofs.Common.{◌≡◌, ◌≤◌, ◌+◌, ◌-◌, ℕ, List, Option, Some, None, Ok, Err, refl, arith}
+use Rattle.std.proofs.Common.{◌≡◌, ◌≢◌, ◌≤◌, ◌+◌, ◌-◌, ℕ, List, Option, Some, None, Ok, Err, refl, arith}
+use Rattle.std.specs.Prelude.{⊤}
 use Rattle.mp_values.specs.Outcome.{OutcomeBy, Cause, Refused, OutOfSteps, Unread}
 use Rattle.mp_values.specs.declared.item.Item.{Item}
 use Rattle.mp_values.specs.declared.macros.Macro.{Macro}
@@ -8,25 +9,23 @@ use Rattle.mp_expand.specs.Expansion.{Expansion}
 use Rattle.mp_expand.specs.Steps.{take_first, enter}
 use Rattle.mp_expand.specs.Calls.{call}
 use Rattle.mp_expand.specs.Advance.{advance, answered}
-use Rattle.mp_expand.specs.Fronts.{Table}
+use Rattle.mp_expand.specs.Laws.{cost, cost_of_first, Pays, IsFree, IsRefused, MayFollow}
+use Rattle.mp_expand.specs.Laws.{IsSpent as IsSpentText}
 use Rattle.mp_expand.specs.declared.front.Front.{Front}
 use Rattle.mp_expand.specs.declared.front.Front.TheVariants as front
 use Rattle.mp_expand.specs.declared.step.Answer.{Answer}
 use Rattle.mp_expand.specs.declared.step.Step.{Step}
+use Rattle.mp_expand.specs.declared.step.Step.TheVariants as step
+use Rattle.mp_expand.proofs.CountLemmas.{counted}
 use Rattle.mp_rules.specs.Machine.{Machine, weight, coming, left}
-use Rattle.mp_rules.specs.Promises.{cost, cost_of_step, used_by_step}
+use Rattle.mp_rules.specs.Promises.{used_by_step}
 use Rattle.mp_rules.specs.Rules.{advancing}
 use Rattle.mp_rules.specs.Steps.{in_text, expanding, answering}
 use Rattle.mp_rules.proofs.Agreement.{IsSpent, After, Agree, AsMany}
 
 -- THE EXPANDER
 
--- a text that is out of steps has used up its budget, and the expander asks for no file
-abbrev IsSpentText : Cause → Expansion → Type 0
-IsSpentText (Refused error) t = Unit {0}
-IsSpentText OutOfSteps t = t.budget ≤ t.steps
-IsSpentText (Unread name) t = ⊥
-
+-- at its end
 abbrev AfterText : {A : Type 0} → OutcomeBy Cause Expansion A → (A → Expansion → Type 0) → Type 0
 AfterText (Ok x) P = P x.0 x.1
 AfterText (Err e) P = IsSpentText e.0 e.1
@@ -39,24 +38,42 @@ record AsManySteps (s t : Expansion) : Type 0 where
   steps : t.steps ≡ s.steps
   budget : t.budget ≡ s.budget
 
-take_counted : (s : Expansion) → AfterText (take_first s) (λ x. FewerSteps (cost x) s)
-take_counted s = ?
+paid : {A : Type 0} (price : A → ℕ) (s : Expansion) (o : OutcomeBy Cause Expansion A) → Pays price s o → AfterText o (λ x. FewerSteps (price x) s)
+paid price s (Ok x) p = record { went = p.1 }
+paid price s (Err e) p = p.1.1
 
-advance_counted : (table : Table) (s : Expansion) → AfterText (advance table s) (λ x. FewerSteps (cost_of_step x) s)
-advance_counted table s = ?
+refused_spent : (c : Cause) (t : Expansion) → IsRefused c → IsSpentText c t
+refused_spent (Refused error) t p = tt
+refused_spent OutOfSteps t p = absurd p
+refused_spent (Unread name) t p = absurd p
 
-record Answered (x : Front) (a : Step) (s t : Expansion) : Type 0 where
+-- no steps were taken, and the answer is as Q says
+record Freely {A : Type 0} (Q : A → Type 0) (s : Expansion) (x : A) (t : Expansion) : Type 0 where
   same : AsManySteps s t
-  used : used_by_step a ≤ weight x
+  such : Q x
 
-answer_counted : (table : Table) (a : Answer) (x : Front) (s : Expansion) → AfterText (answered table a x s) (λ b. Answered x b s)
-answer_counted table a x s = ?
+freed : {A : Type 0} (Q : A → Type 0) (s : Expansion) (o : OutcomeBy Cause Expansion A) → IsFree Q s o → AfterText o (Freely Q s)
+freed Q s (Ok x) p = record { same = record { steps = p.1.0; budget = p.0 }; such = p.1.1 }
+freed Q s (Err e) p = refused_spent e.0 e.1 p.1.1
 
-call_counted : (m : Macro) (got : List (List Item)) (s : Expansion) → AfterText (call m got s) (λ x. AsManySteps s)
-call_counted m got s = ?
+-- a call that asks for more used a front
+weight_used : (x : Front) → (x ≢ front.EndOfText) → 1 ≤ weight x
+weight_used (front.Number n) p = omega arith
+weight_used front.Text p = omega arith
+weight_used front.Capsule p = omega arith
+weight_used (front.Word symbol w) p = omega arith
+weight_used (front.Tag symbol) p = omega arith
+weight_used (front.Internal symbol k) p = omega arith
+weight_used (front.Left symbol pair) p = omega arith
+weight_used (front.Right symbol pair) p = omega arith
+weight_used front.EndOfText p = absurd (p refl)
 
-enter_counted : (s : Expansion) → AfterText (enter s) (λ x. AsManySteps s)
-enter_counted s = ?
+may_use : (x : Front) (a : Step) → MayFollow x a → used_by_step a ≤ weight x
+may_use x (step.Want w) p = weight_used x p
+may_use x step.More p = omega arith
+may_use x (step.Front y) p = omega arith
+may_use x (step.Text bytes) p = omega arith
+may_use x (step.Capsule v) p = omega arith
 
 -- WITHIN A RUN
 
@@ -72,24 +89,24 @@ after_text (Err e) s P Q p f = spent_in_text e.0 s e.1 p
 
 -- the first of the text was taken
 pub record TookOne (x : Option Pending) (s t : Machine) : Type 0 where
-  pub went : coming t + cost x ≤ coming s
+  pub went : coming t + cost_of_first x ≤ coming s
   pub hand : t.front ≡ s.front
 
 pub took : (s : Machine) → Agree (expanding take_first s) (expanding take_first s) (λ x. TookOne x s)
 took s = record {
   same = refl;
-  went = after_text (take_first s.expander) s _ (λ x. TookOne x s) (take_counted s.expander) (λ x t p. record { went = omega (arith, p.went); hand = refl });
+  went = after_text (take_first s.expander) s _ (λ x. TookOne x s) (paid cost_of_first s.expander (take_first s.expander) (counted.taken s.expander)) (λ x t p. record { went = omega (arith, p.went); hand = refl });
 }
 
 -- one more item was taken
 pub record Stepped (x : Step) (s t : Machine) : Type 0 where
-  pub went : coming t + cost_of_step x ≤ coming s
+  pub went : coming t + cost x ≤ coming s
   pub hand : t.front ≡ s.front
 
 pub advanced : (s : Machine) → Agree (advancing s) (advancing s) (λ x. Stepped x s)
 advanced s = record {
   same = refl;
-  went = after_text (advance s.acts.symbols.names s.expander) s _ (λ x. Stepped x s) (advance_counted s.acts.symbols.names s.expander)
+  went = after_text (advance s.acts.symbols.names s.expander) s _ (λ x. Stepped x s) (paid cost s.expander (advance s.acts.symbols.names s.expander) (counted.advanced s.acts.symbols.names s.expander))
       (λ x t p. record { went = omega (arith, p.went); hand = refl });
 }
 
@@ -101,7 +118,8 @@ pub answers : (a : Answer) (s : Machine) → Agree (answering a s) (answering a 
 answers a s = record {
   same = refl;
   went = after_text (answered s.acts.symbols.names a s.front s.expander) (record s { front = front.EndOfText }) _ (λ x. UsedBy x s)
-      (answer_counted s.acts.symbols.names a s.front s.expander) (λ x t p. record { went = omega (arith, p.same.steps, p.same.budget, p.used) });
+      (freed (MayFollow s.front) s.expander (answered s.acts.symbols.names a s.front s.expander) (counted.answered s.acts.symbols.names a s.front s.expander))
+      (λ x t p. record { went = omega (arith, p.same.steps, p.same.budget, may_use s.front x p.such) });
 }
 
 as_many : (s : Machine) (t : Expansion) → AsManySteps s.expander t → AsMany s (record s { expander = t })
@@ -110,11 +128,11 @@ as_many s t p = record { went = rw (p.steps, p.budget) refl; hand = refl }
 pub calls : (m : Macro) (got : List (List Item)) (s : Machine) → Agree (expanding (call m got) s) (expanding (call m got) s) (λ x. AsMany s)
 calls m got s = record {
   same = refl;
-  went = after_text (call m got s.expander) s _ (λ x. AsMany s) (call_counted m got s.expander) (λ x t p. as_many s t p);
+  went = after_text (call m got s.expander) s _ (λ x. AsMany s) (freed (λ called. ⊤) s.expander (call m got s.expander) (counted.called m got s.expander)) (λ x t p. as_many s t p.same);
 }
 
 pub entered : (s : Machine) → Agree (expanding enter s) (expanding enter s) (λ x. AsMany s)
 entered s = record {
   same = refl;
-  went = after_text (enter s.expander) s _ (λ x. AsMany s) (enter_counted s.expander) (λ x t p. as_many s t p);
+  went = after_text (enter s.expander) s _ (λ x. AsMany s) (freed (λ entered. ⊤) s.expander (enter s.expander) (counted.entered s.expander)) (λ x t p. as_many s t p.same);
 }

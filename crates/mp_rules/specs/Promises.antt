@@ -14,7 +14,7 @@ use Rattle.mp_rules.specs.Chains.{reach_of_side}
 use Rattle.mp_rules.specs.Meaning.{the}
 use Rattle.mp_expand.specs.Steps.{take_first}
 use Rattle.mp_expand.specs.Advance.{items_of}
-use Rattle.mp_expand.specs.declared.front.Front.TheVariants as front
+use Rattle.mp_expand.specs.Laws.{cost, cost_of_first}
 use Rattle.mp_expand.specs.declared.step.Answer.{Answer as Answered}
 use Rattle.mp_expand.specs.declared.step.Step.{Step}
 use Rattle.mp_expand.specs.declared.step.Step.TheVariants as step
@@ -152,12 +152,8 @@ abbrev pub ActsAnswer : Rule Answered → Result Answered Stop → Machine → M
 ActsAnswer does result old new = Reads does (left old) (λ answer. 0) (λ answer. greatest reach_of_item (items_of answer)) result old new
 
 -- what comes of an item costs a step, and nothing where nothing was left
-abbrev pub cost_of_step : Step → ℕ
-cost_of_step (step.Front front.EndOfText) = 0
-cost_of_step x = 1
-
 abbrev pub Advances : Result Step Stop → Machine → Machine → Type 0
-Advances result old new = Reads advancing (left old) cost_of_step reach_of_step result old new
+Advances result old new = Reads advancing (left old) cost reach_of_step result old new
 
 -- a call that asks for more used the front behind its last argument
 abbrev pub used_by_step : Step → ℕ
@@ -168,9 +164,5 @@ abbrev pub Answers : Answered → Result Step Stop → Machine → Machine → T
 Answers answer result old new = Reads (answering answer) (left old) used_by_step reach_of_step result old new
 
 -- what was taken costs a step, and nothing where nothing was left
-abbrev pub cost : Option Pending → ℕ
-cost None = 0
-cost (Some x) = 1
-
 abbrev pub Took : Result (Option Pending) Stop → Machine → Machine → Type 0
-Took result old new = Reads (expanding take_first) (left old) cost reach_of_first result old new
+Took result old new = Reads (expanding take_first) (left old) cost_of_first reach_of_first result old new
