@@ -3,6 +3,7 @@
 ghost use Rattle.std.specs.Prelude.{◌≡◌, IfOk};
 ghost use Rattle.mp_values.specs.Outcome.{Yields};
 ghost use Rattle.mp_expand.specs.Advance as advance;
+ghost use Rattle.mp_expand.specs.Expansion.{IsWhole, LosesFirst};
 
 use crate::Front;
 use crate::calls::are_pair;
@@ -44,6 +45,7 @@ impl Expander {
     ) -> Result<Step, Stop>
         ensures exact { Yields result self.new (advance.answered table.now.names answer front self.old) }
         ensures kept { self.new.budget ≡ self.old.budget }
+        ensures lost { LosesFirst result self.old self.new }
     {
         match self.waiting() {
             Some((request, pair)) => {
@@ -67,6 +69,7 @@ impl Expander {
     ) -> Result<Step, Stop>
         ensures exact { Yields result self.new (advance.behind table.now.names request pair front self.old) }
         ensures kept { self.new.budget ≡ self.old.budget }
+        ensures whole { IsWhole result self.old self.new }
     {
         match request.argument_next() {
             Some(kind) => self.behind_more(request, pair, kind, front),
@@ -84,6 +87,7 @@ impl Expander {
     ) -> Result<Step, Stop>
         ensures exact { Yields result self.new (advance.behind_more request pair kind front self.old) }
         ensures kept { self.new.budget ≡ self.old.budget }
+        ensures whole { IsWhole result self.old self.new }
     {
         match front {
             Front::Word(_, Word::Comma) => self.argument(request, pair, kind),
@@ -102,6 +106,7 @@ impl Expander {
     ) -> Result<Step, Stop>
         ensures exact { Yields result self.new (advance.behind_last table.now.names request pair front self.old) }
         ensures kept { self.new.budget ≡ self.old.budget }
+        ensures whole { IsWhole result self.old self.new }
     {
         match front {
             Front::Word(_, Word::Comma) => Err(Stop::Refused(SourceError::BadArguments)),

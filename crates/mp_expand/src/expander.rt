@@ -1,9 +1,10 @@
 //! The expander and its single steps.
 
-ghost use Rattle.std.specs.Prelude.{◌≡◌, ◌≤◌, [], OnOk};
+ghost use Rattle.std.specs.Prelude.{◌≡◌, ◌≤◌, [], OnOk, OnErr, drop};
 ghost use Rattle.mp_values.specs.Ends.{IsNoEnd};
 ghost use Rattle.mp_values.specs.Outcome.{Yields, change};
 ghost use Rattle.mp_expand.specs.Steps as steps;
+ghost use Rattle.mp_expand.specs.Expansion.{IsWhole};
 
 use crate::NESTING_LIMIT;
 use crate::request::Request;
@@ -68,6 +69,7 @@ impl Expander {
     /// Puts the items of the file of that number in front of the text, with its end.
     pub fn start(&mut self, file: u32, tokens: Shared<Tokens>) -> Result<(), NoMemory>
         ensures ok { OnOk result (self.new ≡ steps.start file tokens self.old) }
+        ensures err { OnErr result (self.new ≡ self.old) }
         ensures kept { self.new.budget ≡ self.old.budget }
     {
         self.input.reserve(1)?;
@@ -80,6 +82,8 @@ impl Expander {
     pub fn take(&mut self) -> Result<Option<Pending>, Stop>
         ensures exact { Yields result self.new (steps.take_first self.old) }
         ensures kept { self.new.budget ≡ self.old.budget }
+        ensures whole { IsWhole result self.old self.new }
+        ensures rest { OnOk result (self.new.text ≡ drop 1 self.old.text) }
         ensures requests { self.new.requests ≡ self.old.requests }
     {
         if self.steps < self.budget {
@@ -102,6 +106,8 @@ impl Expander {
     pub fn enter(&mut self) -> Result<(), Stop>
         ensures exact { Yields result self.new (steps.enter self.old) }
         ensures kept { self.new.budget ≡ self.old.budget }
+        ensures text { self.new.text ≡ self.old.text }
+        ensures requests { self.new.requests ≡ self.old.requests }
     {
         if self.nesting >= NESTING_LIMIT {
             return Err(Stop::Refused(SourceError::Limit(Cap::Nesting, NESTING_LIMIT)));
@@ -136,6 +142,7 @@ impl Expander {
     pub fn put_back(&mut self, item: Item) -> Result<(), Stop>
         requires { IsNoEnd item }
         ensures exact { Yields result self.new (change (steps.put_back item) self.old) }
+        ensures err { OnErr result (self.new ≡ self.old) }
         ensures kept { self.new.budget ≡ self.old.budget }
     {
         self.input.reserve(1)?;
