@@ -1,6 +1,6 @@
-use Rattle.std.proofs.Common.{◌≤◌}
+use Rattle.std.proofs.Common.{◌≤◌, ◌<◌}
 use Rattle.mp_expand.proofs.HoldsLemmas.{invents_nothing}
 use Rattle.mp_expand.proofs.laws.expansion_invents_nothing.Goals as goal
 
 pub returns : goal.returns
-returns c f n = invents_nothing (λ x. f x ≤ n)
+returns c f n m = invents_nothing (λ x. f x ≤ n) (λ k. k < m)
