@@ -1,8 +1,8 @@
 -- On what an expansion holds: no step of it invents an item.
-use Rattle.std.proofs.Common.{◌+◌, ◌-◌, ℕ, zero, suc, List, [], ◌∷◌, ◌++◌, Option, Some, None, Ok, Err, Bool, true, false}
-use Rattle.std.specs.Prelude.{⊤, nat_lt, if◌then◌else◌, slice_get, unwrap_or}
+use Rattle.std.proofs.Common.{inl, inr, ◌+◌, ◌-◌, ℕ, zero, suc, List, [], ◌∷◌, ◌++◌, Option, Some, None, Ok, Err, Bool, true, false}
+use Rattle.std.specs.Prelude.{⊤, drop, nat_lt, if◌then◌else◌, slice_get, unwrap_or}
 use Rattle.std.specs.List.{All}
-use Rattle.std.proofs.lemmas.List.Elements.{All-nil, All-cons, All-head, All-tail, All-push, All-append, All-map}
+use Rattle.std.proofs.lemmas.List.Elements.{All-nil, All-cons, All-head, All-tail, All-push, All-append, All-map, All-same, All-drop}
 use Rattle.mp_report.specs.declared.error.Cap.TheVariants as cap
 use Rattle.mp_report.specs.declared.error.SourceError.TheVariants as error
 use Rattle.mp_tokens.specs.declared.token.Token.{Token}
@@ -23,7 +23,7 @@ use Rattle.mp_values.specs.declared.turn.Pending.TheVariants as pending
 use Rattle.mp_values.specs.declared.word.Word.{Word}
 use Rattle.mp_values.specs.declared.word.Word.TheVariants as word
 use Rattle.mp_input.specs.Lines.{items_pending, last_after}
-use Rattle.mp_expand.specs.Expansion.{Expansion, Rule, with_requests, reading, reading_by, opening, opening_by, waiting, waiting_by}
+use Rattle.mp_expand.specs.Expansion.{Expansion, Rule, IsRest, IsLeft, with_requests, reading, reading_by, opening, opening_by, waiting, waiting_by}
 use Rattle.mp_expand.specs.Steps.{take_first, take_from, enter, put_back, start}
 use Rattle.mp_expand.specs.Fronts.{Table, meaning_of}
 use Rattle.mp_expand.specs.Calls.{are_pair, argument_next, parameter_next, with_request, needing, rest_by, group_by, call, ask, argument, with_argument, closed}
@@ -325,6 +325,13 @@ module _ (P : Item → Type 0) (N : ℕ → Type 0) where
   start_holds : (file : ℕ) (tokens : List Token) (s : Expansion) → All P (file_items file tokens) → Holds P N s → Holds P N (start file tokens s)
   start_holds file tokens s h hs = record { text = in_front (file_items file tokens) s.text h hs.text; requests = hs.requests }
 
+  rest_is : {A : Type 0} (Q : A → Type 0) (old new : List A) → IsRest old new → All Q old → All Q new
+  rest_is Q old new (inl e) h = All-same Q new old e h
+  rest_is Q old new (inr e) h = All-same Q new (drop 1 old) e (All-drop Q 1 old h)
+
+  left_holds : (s t : Expansion) → IsLeft s t → Holds P N s → Holds P N t
+  left_holds s t is hs = record { text = rest_is (HoldsPending P N) s.text t.text is.0 hs.text; requests = rest_is (HoldsRequest P N) s.requests t.requests is.1 hs.requests }
+
 pub invents_nothing : (P : Item → Type 0) (N : ℕ → Type 0) → InventsNothingOf P N
 invents_nothing P N = record {
   taken = take_first_holds P N;
@@ -334,5 +341,6 @@ invents_nothing P N = record {
   entered = enter_holds P N;
   put_back = put_back_holds P N;
   started = start_holds P N;
+  lost = left_holds P N;
   substituted = substitute_holds P N;
 }

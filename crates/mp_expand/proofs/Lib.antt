@@ -1,2 +1,3 @@
-pub mod HoldsLemmas
-pub mod CountLemmas
+mod HoldsLemmas
+mod CountLemmas
+mod Examples

@@ -1,8 +1,10 @@
 -- What an expander holds: the text that is left, and the calls of macros that are not yet whole.
-use Rattle.std.specs.Prelude.{◌≡◌, ℕ, List, [], ◌∷◌, Option, Some, None}
+use Rattle.std.specs.Prelude.{◌≡◌, ℕ, List, [], ◌∷◌, Option, Some, None, Result, Err, ◌⊎◌, drop}
 use Rattle.mp_report.specs.declared.place.Place.{Place}
 use Rattle.mp_values.specs.Outcome.{RuleBy, Cause}
 use Rattle.mp_values.specs.declared.meaning.Delimiters.{Delimiters}
+use Rattle.mp_values.specs.declared.stop.Stop.{Stop}
+use Rattle.mp_values.specs.declared.stop.Stop.TheVariants as stop
 use Rattle.mp_values.specs.declared.turn.Pending.{Pending}
 use Rattle.mp_expand.specs.declared.request.Delimited.{Delimited}
 use Rattle.mp_expand.specs.declared.request.Need.{Need}
@@ -24,11 +26,6 @@ pub record Expansion : Type 0 where
 
 abbrev pub Rule : Type 0 → Type 0
 Rule A = RuleBy Cause Expansion A
-
--- nothing is left to read: what remains where memory ran out
-pub record IsNothing (s : Expansion) : Type 0 where
-  pub text : s.text ≡ []
-  pub requests : s.requests ≡ []
 
 -- THE NEWEST CALL, BY WHAT IT NEEDS
 
@@ -71,3 +68,25 @@ with_requests rs s = record s { requests = rs }
 abbrev pub TakesOff : {A : Type 0} → NewestWith A → Option (Request × A) → Expansion → Expansion → Type 0
 TakesOff newest (Some x) old new = (newest ≡ Some (x, new.requests)) × (new ≡ with_requests new.requests old)
 TakesOff newest None old new = (newest ≡ None) × (new ≡ old)
+
+-- WHERE MEMORY RAN OUT
+
+-- a function that memory ran out in left the text and the calls as they were
+abbrev pub IsWhole : {A : Type 0} → Result A Stop → Expansion → Expansion → Type 0
+IsWhole result old new = result ≡ Err stop.NoMemory → (new.text ≡ old.text) × (new.requests ≡ old.requests)
+
+-- a list, or what is behind its first
+abbrev pub IsRest : {A : Type 0} → List A → List A → Type 0
+IsRest old new = (new ≡ old) ⊎ (new ≡ drop 1 old)
+
+-- it left the text as it was, and the calls, or all but the newest
+abbrev pub LosesCall : {A : Type 0} → Result A Stop → Expansion → Expansion → Type 0
+LosesCall result old new = result ≡ Err stop.NoMemory → (new.text ≡ old.text) × IsRest old.requests new.requests
+
+-- of text and calls all is left, or all but the first
+abbrev pub IsLeft : Expansion → Expansion → Type 0
+IsLeft old new = IsRest old.text new.text × IsRest old.requests new.requests
+
+-- it left that much
+abbrev pub LosesFirst : {A : Type 0} → Result A Stop → Expansion → Expansion → Type 0
+LosesFirst result old new = result ≡ Err stop.NoMemory → IsLeft old new

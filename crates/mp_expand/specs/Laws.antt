@@ -8,7 +8,7 @@ use Rattle.mp_values.specs.Substitution.{substitute}
 use Rattle.mp_values.specs.declared.item.Item.{Item}
 use Rattle.mp_values.specs.declared.macros.Macro.{Macro}
 use Rattle.mp_values.specs.declared.turn.Pending.{Pending}
-use Rattle.mp_expand.specs.Expansion.{Expansion}
+use Rattle.mp_expand.specs.Expansion.{Expansion, IsLeft}
 use Rattle.mp_expand.specs.Steps.{take_first, enter, put_back, start}
 use Rattle.mp_expand.specs.Fronts.{Table}
 use Rattle.mp_expand.specs.Calls.{call}
@@ -33,6 +33,8 @@ pub record InventsNothingOf (P : Item → Type 0) (N : ℕ → Type 0) : Type 0 
   pub entered : (s : Expansion) → Holds P N s → HoldsAfter P N (λ entered. ⊤) (enter s)
   pub put_back : (x : Item) (s : Expansion) → P x → Holds P N s → Holds P N (put_back x s)
   pub started : (file : ℕ) (tokens : List Token) (s : Expansion) → All P (file_items file tokens) → Holds P N s → Holds P N (start file tokens s)
+  -- where memory ran out
+  pub lost : (s t : Expansion) → IsLeft s t → Holds P N s → Holds P N t
   pub substituted : (body : List Item) (arguments : List (List Item)) → All P body → All (All P) arguments → All P (substitute body arguments)
 
 -- so whatever number items have, it stays within what bounds it, and so do the numbers of internals

@@ -1,10 +1,10 @@
 //! Expansion: what comes of the next item.
 
-ghost use Rattle.std.specs.Prelude.{◌≡◌, Option, None, Err};
+ghost use Rattle.std.specs.Prelude.{◌≡◌, Option, None};
 ghost use Rattle.mp_values.specs.Outcome.{Yields};
 ghost use Rattle.mp_expand.specs.Advance as advance;
 ghost use Rattle.mp_expand.specs.Fronts as fronts;
-ghost use Rattle.mp_expand.specs.Expansion.{IsNothing};
+ghost use Rattle.mp_expand.specs.Expansion.{IsWhole, LosesCall, LosesFirst};
 
 use crate::Front;
 use crate::expander::Expander;
@@ -19,25 +19,11 @@ use mp_values::{Arguments, Item, Level, Macro, Meaning, Pending, Stop, Word};
 impl Expander {
     /// The next item: a front, an operand that is needed, or nothing yet. Line ends and file ends are passed over, and
     /// macros are called. A bad token, a word that is not built, and what stands where a call cannot go on, are refused.
-    /// Where memory ran out nothing is left to read.
+    #[tactic(auto, unfolding(crate::specs::Advance::advance))]
     pub fn next(&mut self, table: &Symbols<Meaning>) -> Result<Step, Stop>
         ensures exact { Yields result self.new (advance.advance table.now.names self.old) }
         ensures kept { self.new.budget ≡ self.old.budget }
-        ensures starved { result ≡ Err Stop.NoMemory → IsNothing self.new }
-    {
-        match self.step(table) {
-            Err(Stop::NoMemory) => {
-                self.give_up();
-                Err(Stop::NoMemory)
-            }
-            result => result,
-        }
-    }
-
-    #[tactic(auto, unfolding(crate::specs::Advance::advance))]
-    fn step(&mut self, table: &Symbols<Meaning>) -> Result<Step, Stop>
-        ensures exact { Yields result self.new (advance.advance table.now.names self.old) }
-        ensures kept { self.new.budget ≡ self.old.budget }
+        ensures lost { LosesFirst result self.old self.new }
     {
         let taken = self.take()?;
         self.taken(table, taken)
@@ -46,6 +32,7 @@ impl Expander {
     fn taken(&mut self, table: &Symbols<Meaning>, taken: Option<Pending>) -> Result<Step, Stop>
         ensures exact { Yields result self.new (advance.taken table.now.names taken self.old) }
         ensures kept { self.new.budget ≡ self.old.budget }
+        ensures lost { LosesCall result self.old self.new }
     {
         match self.reading() {
             Some((request, (pair, depth))) => self.taken_in_text(
@@ -58,6 +45,7 @@ impl Expander {
     fn expanded(&mut self, table: &Symbols<Meaning>, taken: Option<Pending>) -> Result<Step, Stop>
         ensures exact { Yields result self.new (advance.expanded table.now.names taken self.old) }
         ensures kept { self.new.budget ≡ self.old.budget }
+        ensures lost { LosesCall result self.old self.new }
     {
         match taken {
             Some(Pending::Item(item)) => self.item_expanded(table, item),
@@ -69,6 +57,7 @@ impl Expander {
     fn item_expanded(&mut self, table: &Symbols<Meaning>, item: Item) -> Result<Step, Stop>
         ensures exact { Yields result self.new (advance.item_expanded table.now.names item self.old) }
         ensures kept { self.new.budget ≡ self.old.budget }
+        ensures lost { LosesCall result self.old self.new }
     {
         match item {
             Item::Symbol(symbol) => self.symbol_expanded(table, symbol),
@@ -85,6 +74,7 @@ impl Expander {
         ensures exact { Yields result self.new (advance.symbol_expanded symbol
             (fronts.meaning_of table.now.names symbol) self.old) }
         ensures kept { self.new.budget ≡ self.old.budget }
+        ensures lost { LosesCall result self.old self.new }
     {
         let front = match meaning_of(table, symbol) {
             Some(Meaning::Word(Word::Backslash)) => return Ok(Step::More),
@@ -103,6 +93,7 @@ impl Expander {
     fn call_by(&mut self, called: &Shared<Macro>) -> Result<Step, Stop>
         ensures exact { Yields result self.new (advance.call_by called.now.level called.now self.old) }
         ensures kept { self.new.budget ≡ self.old.budget }
+        ensures whole { IsWhole result self.old self.new }
     {
         let alloc = self.alloc;
         match called.get().level {
@@ -118,6 +109,7 @@ impl Expander {
     fn reached(&mut self, step: Step) -> Result<Step, Stop>
         ensures exact { Yields result self.new (advance.reached step self.old) }
         ensures kept { self.new.budget ≡ self.old.budget }
+        ensures lost { LosesCall result self.old self.new }
     {
         match self.opening() {
             Some((request, kind)) => self.opened(request, kind, step),
@@ -128,6 +120,7 @@ impl Expander {
     fn opened(&mut self, request: Request, kind: Delimited, step: Step) -> Result<Step, Stop>
         ensures exact { Yields result self.new (advance.opened request kind step self.old) }
         ensures kept { self.new.budget ≡ self.old.budget }
+        ensures whole { IsWhole result self.old self.new }
     {
         match step {
             Step::Front(Front::Left(_, pair)) => self.argument(request, pair, kind),

@@ -1,9 +1,9 @@
 //! Expansion: what comes of an answer.
 
-ghost use Rattle.std.specs.Prelude.{◌≡◌, IfOk, Err};
+ghost use Rattle.std.specs.Prelude.{◌≡◌, IfOk};
 ghost use Rattle.mp_values.specs.Outcome.{Yields};
 ghost use Rattle.mp_expand.specs.Advance as advance;
-ghost use Rattle.mp_expand.specs.Expansion.{IsNothing};
+ghost use Rattle.mp_expand.specs.Expansion.{IsWhole, LosesFirst};
 
 use crate::Front;
 use crate::calls::are_pair;
@@ -33,10 +33,10 @@ fn items_of(alloc: Global, answer: Answer) -> Result<Shared<Items>, NoMemory>
 
 impl Expander {
     /// The newest call gets what it waits for, with the front that stands behind it, which is used up: it asks for more,
-    /// or goes on with the text. An answer that no call waits for does nothing. Where memory ran out nothing is left to
-    /// read.
+    /// or goes on with the text. An answer that no call waits for does nothing.
     ///
     /// `BadArguments` where an argument is missing or in excess, `Unexpected` where the last one is not closed.
+    #[tactic(auto, unfolding(crate::specs::Advance::answered))]
     pub fn answer(
         &mut self,
         table: &Symbols<Meaning>,
@@ -45,26 +45,7 @@ impl Expander {
     ) -> Result<Step, Stop>
         ensures exact { Yields result self.new (advance.answered table.now.names answer front self.old) }
         ensures kept { self.new.budget ≡ self.old.budget }
-        ensures starved { result ≡ Err Stop.NoMemory → IsNothing self.new }
-    {
-        match self.answered(table, answer, front) {
-            Err(Stop::NoMemory) => {
-                self.give_up();
-                Err(Stop::NoMemory)
-            }
-            result => result,
-        }
-    }
-
-    #[tactic(auto, unfolding(crate::specs::Advance::answered))]
-    fn answered(
-        &mut self,
-        table: &Symbols<Meaning>,
-        answer: Answer,
-        front: Front,
-    ) -> Result<Step, Stop>
-        ensures exact { Yields result self.new (advance.answered table.now.names answer front self.old) }
-        ensures kept { self.new.budget ≡ self.old.budget }
+        ensures lost { LosesFirst result self.old self.new }
     {
         match self.waiting() {
             Some((request, pair)) => {
@@ -88,6 +69,7 @@ impl Expander {
     ) -> Result<Step, Stop>
         ensures exact { Yields result self.new (advance.behind table.now.names request pair front self.old) }
         ensures kept { self.new.budget ≡ self.old.budget }
+        ensures whole { IsWhole result self.old self.new }
     {
         match request.argument_next() {
             Some(kind) => self.behind_more(request, pair, kind, front),
@@ -105,6 +87,7 @@ impl Expander {
     ) -> Result<Step, Stop>
         ensures exact { Yields result self.new (advance.behind_more request pair kind front self.old) }
         ensures kept { self.new.budget ≡ self.old.budget }
+        ensures whole { IsWhole result self.old self.new }
     {
         match front {
             Front::Word(_, Word::Comma) => self.argument(request, pair, kind),
@@ -123,6 +106,7 @@ impl Expander {
     ) -> Result<Step, Stop>
         ensures exact { Yields result self.new (advance.behind_last table.now.names request pair front self.old) }
         ensures kept { self.new.budget ≡ self.old.budget }
+        ensures whole { IsWhole result self.old self.new }
     {
         match front {
             Front::Word(_, Word::Comma) => Err(Stop::Refused(SourceError::BadArguments)),

@@ -1,9 +1,9 @@
 //! Calls of macros: how one gets its arguments, and what stands in the text when it has them all.
 
-ghost use Rattle.std.specs.Prelude.{◌≡◌, IfOk, Err};
+ghost use Rattle.std.specs.Prelude.{◌≡◌, IfOk};
 ghost use Rattle.mp_values.specs.Outcome.{Yields, change};
 ghost use Rattle.mp_expand.specs.Calls as calls;
-ghost use Rattle.mp_expand.specs.Expansion.{IsNothing};
+ghost use Rattle.mp_expand.specs.Expansion.{IsWhole};
 
 use crate::expander::Expander;
 use crate::request::{Delimited, Need, Request};
@@ -69,6 +69,7 @@ impl Expander {
     fn put_body(&mut self, request: Request) -> Result<(), Stop>
         ensures exact { Yields result self.new (change (calls.with_body request) self.old) }
         ensures kept { self.new.budget ≡ self.old.budget }
+        ensures whole { IsWhole result self.old self.new }
     {
         let body = request.called.get().body.share()?;
         self.input.reserve(1)?;
@@ -80,6 +81,7 @@ impl Expander {
     fn next_group(&mut self, request: Request) -> Result<(), Stop>
         ensures exact { Yields result self.new (calls.next_group request self.old) }
         ensures kept { self.new.budget ≡ self.old.budget }
+        ensures whole { IsWhole result self.old self.new }
     {
         match request.argument_next() {
             Some(kind) => Ok(self.need(request, Need::Opening(kind))?),
@@ -93,25 +95,11 @@ impl Expander {
         }
     }
 
-    /// Calls a macro, with the arguments that its body has before the first parameter. Where memory ran out nothing is
-    /// left to read.
+    /// Calls a macro, with the arguments that its body has before the first parameter.
     pub fn call(&mut self, called: Shared<Macro>, got: Arguments) -> Result<(), Stop>
         ensures exact { Yields result self.new (calls.call called got self.old) }
         ensures kept { self.new.budget ≡ self.old.budget }
-        ensures starved { result ≡ Err Stop.NoMemory → IsNothing self.new }
-    {
-        match self.begin_call(called, got) {
-            Err(Stop::NoMemory) => {
-                self.give_up();
-                Err(Stop::NoMemory)
-            }
-            result => result,
-        }
-    }
-
-    pub(crate) fn begin_call(&mut self, called: Shared<Macro>, got: Arguments) -> Result<(), Stop>
-        ensures exact { Yields result self.new (calls.call called got self.old) }
-        ensures kept { self.new.budget ≡ self.old.budget }
+        ensures whole { IsWhole result self.old self.new }
     {
         let text = Items::new(self.alloc);
         self.next_group(Request {
@@ -127,6 +115,7 @@ impl Expander {
     fn ask(&mut self, request: Request, pair: Delimiters, want: Want) -> Result<Step, Stop>
         ensures exact { Yields result self.new (calls.ask request pair want self.old) }
         ensures kept { self.new.budget ≡ self.old.budget }
+        ensures whole { IsWhole result self.old self.new }
     {
         self.enter()?;
         self.need(request, Need::Answer(pair))?;
@@ -142,6 +131,7 @@ impl Expander {
     ) -> Result<Step, Stop>
         ensures exact { Yields result self.new (calls.argument request pair kind self.old) }
         ensures kept { self.new.budget ≡ self.old.budget }
+        ensures whole { IsWhole result self.old self.new }
     {
         match kind {
             Delimited::Expr => self.ask(request, pair, Want::Expression),
@@ -157,6 +147,7 @@ impl Expander {
     pub(crate) fn closed(&mut self, request: Request) -> Result<Step, Stop>
         ensures exact { Yields result self.new (calls.closed request self.old) }
         ensures kept { self.new.budget ≡ self.old.budget }
+        ensures whole { IsWhole result self.old self.new }
     {
         self.next_group(request)?;
         Ok(Step::More)

@@ -1,10 +1,10 @@
 //! The expander and its single steps.
 
-ghost use Rattle.std.specs.Prelude.{◌≡◌, ◌≤◌, [], OnOk, Err};
+ghost use Rattle.std.specs.Prelude.{◌≡◌, ◌≤◌, [], OnOk, OnErr, drop};
 ghost use Rattle.mp_values.specs.Ends.{IsNoEnd};
 ghost use Rattle.mp_values.specs.Outcome.{Yields, change};
-ghost use Rattle.mp_expand.specs.Expansion.{IsNothing};
 ghost use Rattle.mp_expand.specs.Steps as steps;
+ghost use Rattle.mp_expand.specs.Expansion.{IsWhole};
 
 use crate::NESTING_LIMIT;
 use crate::request::Request;
@@ -66,18 +66,10 @@ impl Expander {
         }
     }
 
-    /// Nothing is left to read, where memory ran out.
-    pub(crate) fn give_up(&mut self)
-        ensures nothing { IsNothing self.new }
-        ensures kept { self.new.budget ≡ self.old.budget }
-    {
-        self.input = Input::new(self.alloc);
-        self.requests = Vec::new(self.alloc);
-    }
-
     /// Puts the items of the file of that number in front of the text, with its end.
     pub fn start(&mut self, file: u32, tokens: Shared<Tokens>) -> Result<(), NoMemory>
         ensures ok { OnOk result (self.new ≡ steps.start file tokens self.old) }
+        ensures err { OnErr result (self.new ≡ self.old) }
         ensures kept { self.new.budget ≡ self.old.budget }
     {
         self.input.reserve(1)?;
@@ -90,8 +82,9 @@ impl Expander {
     pub fn take(&mut self) -> Result<Option<Pending>, Stop>
         ensures exact { Yields result self.new (steps.take_first self.old) }
         ensures kept { self.new.budget ≡ self.old.budget }
+        ensures whole { IsWhole result self.old self.new }
+        ensures rest { OnOk result (self.new.text ≡ drop 1 self.old.text) }
         ensures requests { self.new.requests ≡ self.old.requests }
-        ensures starved { result ≡ Err Stop.NoMemory → self.new.text ≡ self.old.text }
     {
         if self.steps < self.budget {
             match self.input.take()? {
@@ -112,7 +105,9 @@ impl Expander {
     #[tactic(auto, unfolding(crate::specs::Steps::enter))]
     pub fn enter(&mut self) -> Result<(), Stop>
         ensures exact { Yields result self.new (steps.enter self.old) }
-        ensures rest { self.new ≡ record self.old { nesting = self.new.nesting } }
+        ensures kept { self.new.budget ≡ self.old.budget }
+        ensures text { self.new.text ≡ self.old.text }
+        ensures requests { self.new.requests ≡ self.old.requests }
     {
         if self.nesting >= NESTING_LIMIT {
             return Err(Stop::Refused(SourceError::Limit(Cap::Nesting, NESTING_LIMIT)));
@@ -147,6 +142,7 @@ impl Expander {
     pub fn put_back(&mut self, item: Item) -> Result<(), Stop>
         requires { IsNoEnd item }
         ensures exact { Yields result self.new (change (steps.put_back item) self.old) }
+        ensures err { OnErr result (self.new ≡ self.old) }
         ensures kept { self.new.budget ≡ self.old.budget }
     {
         self.input.reserve(1)?;

@@ -1,6 +1,6 @@
 //! The calls that have not got all their arguments.
 
-ghost use Rattle.std.specs.Prelude.{◌≡◌, OnOk};
+ghost use Rattle.std.specs.Prelude.{◌≡◌, OnOk, OnErr};
 ghost use Rattle.mp_expand.specs.Calls as calls;
 ghost use Rattle.mp_expand.specs.Expansion as expansion;
 ghost use Rattle.mp_expand.specs.Expansion.{TakesOff};
@@ -44,7 +44,7 @@ impl Expander {
     /// A call stands before the others, and needs that.
     pub(crate) fn need(&mut self, mut request: Request, need: Need) -> Result<(), NoMemory>
         ensures ok { OnOk result (self.new ≡ calls.with_request (calls.needing need request) self.old) }
-        ensures kept { self.new.budget ≡ self.old.budget }
+        ensures err { OnErr result (self.new ≡ self.old) }
     {
         request.need = need;
         self.requests.push(request)?;

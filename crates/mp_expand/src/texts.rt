@@ -6,6 +6,7 @@ ghost use Rattle.mp_values.specs.Ends.{IsNoEnd};
 ghost use Rattle.mp_expand.specs.Advance as advance;
 ghost use Rattle.mp_expand.specs.Calls as calls;
 ghost use Rattle.mp_expand.specs.Fronts as fronts;
+ghost use Rattle.mp_expand.specs.Expansion.{IsWhole};
 
 use crate::calls::are_pair;
 use crate::expander::Expander;
@@ -30,6 +31,7 @@ impl Expander {
         requires { IsNoEnd item }
         ensures exact { Yields result self.new (advance.with_item request pair item depth self.old) }
         ensures kept { self.new.budget ≡ self.old.budget }
+        ensures whole { IsWhole result self.old self.new }
     {
         request.text.push(item)?;
         self.need(request, Need::Text(pair, depth))?;
@@ -40,6 +42,7 @@ impl Expander {
     fn text_ends(&mut self, mut request: Request) -> Result<Step, Stop>
         ensures exact { Yields result self.new (calls.closed (calls.with_argument request.text request) self.old) }
         ensures kept { self.new.budget ≡ self.old.budget }
+        ensures whole { IsWhole result self.old self.new }
     {
         let alloc = self.alloc;
         let items = replace(&mut request.text, Items::new(alloc));
@@ -59,6 +62,7 @@ impl Expander {
         ensures exact { Yields result self.new (advance.symbol_in_text request pair depth symbol
             (fronts.meaning_of table.now.names symbol) self.old) }
         ensures kept { self.new.budget ≡ self.old.budget }
+        ensures whole { IsWhole result self.old self.new }
     {
         let item = Item::Symbol(symbol);
         match meaning_of(table, symbol) {
@@ -86,6 +90,7 @@ impl Expander {
     ) -> Result<Step, Stop>
         ensures exact { Yields result self.new (advance.item_in_text table.now.names request pair depth item self.old) }
         ensures kept { self.new.budget ≡ self.old.budget }
+        ensures whole { IsWhole result self.old self.new }
     {
         match item {
             Item::LineEnd(_) => {
@@ -111,6 +116,7 @@ impl Expander {
     ) -> Result<Step, Stop>
         ensures exact { Yields result self.new (advance.taken_in_text table.now.names request pair depth taken self.old) }
         ensures kept { self.new.budget ≡ self.old.budget }
+        ensures whole { IsWhole result self.old self.new }
     {
         match taken {
             Some(Pending::Item(item)) => self.item_in_text(table, request, pair, depth, item),

@@ -4,6 +4,8 @@
 #![tactic(auto)]
 
 #[cfg(test)]
+mod expand;
+#[cfg(test)]
 mod faults;
 #[cfg(test)]
 mod files;

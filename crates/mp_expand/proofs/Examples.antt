@@ -1,0 +1,73 @@
+-- What the definitions give at some texts.
+use Rattle.std.proofs.Common.{◌≡◌, refl, ℕ, List, [], ◌∷◌, Ok, Err}
+use Rattle.std.specs.Prelude.{codes}
+use Rattle.mp_report.specs.declared.error.SourceError.TheVariants as error
+use Rattle.mp_values.specs.Outcome.{Refused}
+use Rattle.mp_values.specs.declared.item.Item.{Item}
+use Rattle.mp_values.specs.declared.item.Item.TheVariants.{Symbol, Param}
+use Rattle.mp_values.specs.declared.macros.Level.TheVariants as level
+use Rattle.mp_values.specs.declared.macros.Macro.{Macro}
+use Rattle.mp_values.specs.declared.macros.ParamKind.TheVariants as kind
+use Rattle.mp_values.specs.declared.meaning.Delimiters.{Delimiters}
+use Rattle.mp_values.specs.declared.meaning.Meaning.TheVariants as meaning
+use Rattle.mp_values.specs.declared.word.Word.TheVariants as word
+use Rattle.mp_input.specs.Lines.{items_pending}
+use Rattle.mp_expand.specs.Expansion.{Expansion}
+use Rattle.mp_expand.specs.Steps.{take_first}
+use Rattle.mp_expand.specs.Fronts.{Table}
+use Rattle.mp_expand.specs.Advance.{advance, answered}
+use Rattle.mp_expand.specs.declared.front.Front.TheVariants as front
+use Rattle.mp_expand.specs.declared.request.Need.TheVariants as need
+use Rattle.mp_expand.specs.declared.request.Request.{Request}
+use Rattle.mp_expand.specs.declared.step.Answer.TheVariants as answer
+use Rattle.mp_expand.specs.declared.step.Step.TheVariants as step
+
+abbrev parentheses : Delimiters
+parentheses = record { left = 0; right = 1 }
+
+abbrev table : Table
+table =
+    (codes "(", meaning.Left parentheses) ∷ (codes ")", meaning.Right parentheses) ∷ (codes ",", meaning.Word word.Comma)
+    ∷ (codes "\\", meaning.Word word.Backslash) ∷ (codes "a", meaning.NewTag) ∷ []
+
+abbrev a : Item
+a = Symbol 4
+
+-- a macro whose text argument stands twice, one after the other
+abbrev twice : Macro
+twice = record { params = kind.Text ∷ []; body = Param 0 ∷ Param 0 ∷ []; level = level.Plain }
+
+-- so many items were taken, and that is left
+abbrev left : ℕ → List Item → List Request → Expansion
+left taken items calls = record { text = items_pending items; last = record { file = 0; line = 0 }; steps = taken; budget = 9; nesting = 1; requests = calls }
+
+-- its call, which has read these items
+abbrev reading : ℕ → List Item → Request
+reading depth items = record { called = twice; got = []; next = 0; need = need.Text parentheses depth; text = items }
+
+backslash : advance table (left 0 (Symbol 3 ∷ a ∷ []) []) ≡ Ok (step.More, left 1 (a ∷ []) [])
+unfolding advance take_first
+backslash = refl
+
+-- an inner right delimiter belongs to the text
+inner : advance table (left 0 (Symbol 1 ∷ []) (reading 1 (Symbol 0 ∷ []) ∷ [])) ≡ Ok (step.More, left 1 [] (reading 0 (Symbol 0 ∷ Symbol 1 ∷ []) ∷ []))
+unfolding advance take_first
+inner = refl
+
+-- the outer one ends it
+outer : advance table (left 0 (Symbol 1 ∷ a ∷ []) (reading 0 (a ∷ []) ∷ [])) ≡ Ok (step.More, left 1 (a ∷ a ∷ a ∷ []) [])
+unfolding advance take_first
+outer = refl
+
+-- a call of a macro with one argument, which waits for it
+abbrev waiting : Request
+waiting = record { called = record twice { params = kind.Suffix ∷ [] }; got = []; next = 0; need = need.Answer parentheses; text = [] }
+
+closed : answered table (answer.Suffix (a ∷ [])) (front.Right 1 parentheses) (left 1 [] (waiting ∷ [])) ≡ Ok (step.More, record (left 1 (a ∷ a ∷ []) []) { nesting = 0 })
+unfolding answered
+closed = refl
+
+-- and a comma behind it
+excess : answered table (answer.Suffix (a ∷ [])) (front.Word 2 word.Comma) (left 1 [] (waiting ∷ [])) ≡ Err (Refused error.BadArguments, record (left 1 [] []) { nesting = 0 })
+unfolding answered
+excess = refl
