@@ -1,10 +1,12 @@
 -- On the text within a run: how far the expander goes.
-use Rattle.std.proofs.Common.{◌≡◌, ◌≢◌, ◌≤◌, ◌+◌, ◌-◌, ℕ, List, Option, Some, None, Ok, Err, refl, arith}
-use Rattle.std.specs.Prelude.{⊤}
-use Rattle.mp_values.specs.Outcome.{OutcomeBy, Cause, Refused, OutOfSteps, Unread}
+use Rattle.std.proofs.Common.{◌≡◌, ◌≢◌, ◌≤◌, ◌+◌, ◌-◌, ℕ, List, Option, Some, None, Result, Ok, Err, refl, ap, subst, arith}
+use Rattle.std.specs.Prelude.{⊤, IfOk}
+use Rattle.mp_values.specs.Outcome.{OutcomeBy, Yields, Cause, Refused, OutOfSteps, Unread}
 use Rattle.mp_values.specs.declared.item.Item.{Item}
 use Rattle.mp_values.specs.declared.macros.Macro.{Macro}
+use Rattle.mp_values.specs.declared.stop.Stop.{Stop}
 use Rattle.mp_values.specs.declared.turn.Pending.{Pending}
+use Rattle.mp_acts.specs.Counts.{Counts, nothing, IsWithin}
 use Rattle.mp_expand.specs.Expansion.{Expansion}
 use Rattle.mp_expand.specs.Steps.{take_first, enter}
 use Rattle.mp_expand.specs.Calls.{call}
@@ -17,8 +19,9 @@ use Rattle.mp_expand.specs.declared.step.Answer.{Answer}
 use Rattle.mp_expand.specs.declared.step.Step.{Step}
 use Rattle.mp_expand.specs.declared.step.Step.TheVariants as step
 use Rattle.mp_expand.proofs.CountLemmas.{counted}
-use Rattle.mp_rules.specs.Machine.{Machine, weight, coming, left}
-use Rattle.mp_rules.specs.Promises.{used_by_step}
+use Rattle.mp_rules.specs.Machine.{Machine, weight, coming, left, things}
+use Rattle.mp_rules.specs.Promises.{used_by_step, Took, Advances, Answers, Acts}
+use Rattle.mp_rules.specs.Reach.{reach_of_first, reach_of_step}
 use Rattle.mp_rules.specs.Rules.{advancing}
 use Rattle.mp_rules.specs.Steps.{in_text, expanding, answering}
 use Rattle.mp_rules.proofs.Agreement.{IsSpent, After, Agree, AsMany}
@@ -135,4 +138,109 @@ pub entered : (s : Machine) → Agree (expanding enter s) (expanding enter s) (�
 entered s = record {
   same = refl;
   went = after_text (enter s.expander) s _ (λ x. AsMany s) (freed (λ entered. ⊤) s.expander (enter s.expander) (counted.entered s.expander)) (λ x t p. as_many s t p.same);
+}
+
+-- WHAT A FUNCTION LEAVES
+
+in_text_yields : {A : Type 0} (s : Machine) (result : Result A Stop) (t : Expansion) (o : OutcomeBy Cause Expansion A) → Yields result t o
+    → Yields result (record s { expander = t }) (in_text s o)
+in_text_yields s (Ok x) t o gives = ap (in_text s) gives
+in_text_yields s (Err made) t o gives = λ other. ap (in_text s) (gives other)
+
+within_itself : (n : Counts) → IsWithin n n
+within_itself n = record { unknowns = omega arith; slots = omega arith; symbols = omega arith; internals = omega arith }
+
+paid_by : {A : Type 0} (price : A → ℕ) (result : Result A Stop) (s t : Expansion) (o : OutcomeBy Cause Expansion A) → Yields result t o → Pays price s o
+    → IfOk result (λ x. (t.budget - t.steps) + price x ≤ s.budget - s.steps)
+paid_by {A = A} price (Ok x) s t o gives p =
+    let after : Pays price s (Ok (x, t)) = subst (λ (o : OutcomeBy Cause Expansion A). Pays price s o) gives p in
+    after.1
+paid_by price (Err made) s t o gives p = tt
+
+took_left : {A : Type 0} (price : A → ℕ) (result : Result A Stop) (s : Machine) (t : Expansion) → IfOk result (λ x. (t.budget - t.steps) + price x ≤ s.expander.budget - s.expander.steps)
+    → IfOk result (λ x. left (record s { expander = t }) + price x ≤ left s)
+took_left price (Ok x) s t p = omega (arith, p)
+took_left price (Err made) s t p = tt
+
+-- one item taken as it stands
+pub takes : (s : Machine) (t : Expansion) (result : Result (Option Pending) Stop) → Yields result t (take_first s.expander) → t.budget ≡ s.expander.budget
+    → IfOk result (λ x. IsWithin (reach_of_first x) (things s)) → Took result s (record s { expander = t })
+takes s t result gives kept given = record {
+  meaning = in_text_yields s result t (take_first s.expander) gives;
+  went = took_left cost_of_first result s t (paid_by cost_of_first result s.expander t (take_first s.expander) gives (counted.taken s.expander));
+  kept = kept;
+  files = refl;
+  grown = within_itself (things s);
+  within = given;
+}
+
+-- one more item
+pub advances : (s : Machine) (t : Expansion) (result : Result Step Stop) → Yields result t (advance s.acts.symbols.names s.expander) → t.budget ≡ s.expander.budget
+    → IfOk result (λ x. IsWithin (reach_of_step x) (things s)) → Advances result s (record s { expander = t })
+advances s t result gives kept given = record {
+  meaning = in_text_yields s result t (advance s.acts.symbols.names s.expander) gives;
+  went = took_left cost result s t (paid_by cost result s.expander t (advance s.acts.symbols.names s.expander) gives (counted.advanced s.acts.symbols.names s.expander));
+  kept = kept;
+  files = refl;
+  grown = within_itself (things s);
+  within = given;
+}
+
+free_by : {A : Type 0} (Q : A → Type 0) (result : Result A Stop) (s t : Expansion) (o : OutcomeBy Cause Expansion A) → Yields result t o → IsFree Q s o
+    → IfOk result (λ x. (t.budget ≡ s.budget) × (t.steps ≡ s.steps) × Q x)
+free_by {A = A} Q (Ok x) s t o gives p =
+    let after : IsFree Q s (Ok (x, t)) = subst (λ (o : OutcomeBy Cause Expansion A). IsFree Q s o) gives p in
+    after
+free_by Q (Err made) s t o gives p = tt
+
+answered_left : (result : Result Step Stop) (s : Machine) (t : Expansion)
+    → IfOk result (λ x. (t.budget ≡ s.expander.budget) × (t.steps ≡ s.expander.steps) × MayFollow s.front x)
+    → IfOk result (λ x. left (record s { front = front.EndOfText; expander = t }) + used_by_step x ≤ left s)
+answered_left (Ok x) s t p = omega (arith, p.0, p.1.0, may_use s.front x p.1.1)
+answered_left (Err made) s t p = tt
+
+-- an answer to a call
+pub answers_call : (a : Answer) (s : Machine) (t : Expansion) (result : Result Step Stop) → Yields result t (answered s.acts.symbols.names a s.front s.expander)
+    → t.budget ≡ s.expander.budget → IfOk result (λ x. IsWithin (reach_of_step x) (things s))
+    → Answers a result s (record s { front = front.EndOfText; expander = t })
+answers_call a s t result gives kept given = record {
+  meaning = in_text_yields (record s { front = front.EndOfText }) result t (answered s.acts.symbols.names a s.front s.expander) gives;
+  went = answered_left result s t (free_by (MayFollow s.front) result s.expander t (answered s.acts.symbols.names a s.front s.expander) gives (counted.answered s.acts.symbols.names a s.front s.expander));
+  kept = kept;
+  files = refl;
+  grown = within_itself (things s);
+  within = given;
+}
+
+free_left : (result : Result (Unit {0}) Stop) (s : Machine) (t : Expansion)
+    → IfOk result (λ x. (t.budget ≡ s.expander.budget) × (t.steps ≡ s.expander.steps) × ⊤) → IfOk result (λ x. left (record s { expander = t }) + 0 ≤ left s)
+free_left (Ok x) s t p = omega (arith, p.0, p.1.0)
+free_left (Err made) s t p = tt
+
+nothing_given : (n : Counts) (result : Result (Unit {0}) Stop) → IfOk result (λ x. IsWithin nothing n)
+nothing_given n (Ok x) = record { unknowns = omega arith; slots = omega arith; symbols = omega arith; internals = omega arith }
+nothing_given n (Err made) = tt
+
+-- a call of a macro
+pub calls_macro : (m : Macro) (got : List (List Item)) (s : Machine) (t : Expansion) (result : Result (Unit {0}) Stop) → Yields result t (call m got s.expander)
+    → t.budget ≡ s.expander.budget → Acts (expanding (call m got)) result s (record s { expander = t })
+calls_macro m got s t result gives kept = record {
+  meaning = in_text_yields s result t (call m got s.expander) gives;
+  went = free_left result s t (free_by (λ called. ⊤) result s.expander t (call m got s.expander) gives (counted.called m got s.expander));
+  kept = kept;
+  files = refl;
+  grown = within_itself (things s);
+  within = nothing_given (things s) result;
+}
+
+-- one more primary
+pub enters : (s : Machine) (t : Expansion) (result : Result (Unit {0}) Stop) → Yields result t (enter s.expander) → t.budget ≡ s.expander.budget
+    → Acts (expanding enter) result s (record s { expander = t })
+enters s t result gives kept = record {
+  meaning = in_text_yields s result t (enter s.expander) gives;
+  went = free_left result s t (free_by (λ entered. ⊤) result s.expander t (enter s.expander) gives (counted.entered s.expander));
+  kept = kept;
+  files = refl;
+  grown = within_itself (things s);
+  within = nothing_given (things s) result;
 }

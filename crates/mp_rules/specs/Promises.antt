@@ -10,6 +10,7 @@ use Rattle.mp_acts.specs.Reach.{reach, reach_of_item, reach_of_part, one_symbol,
 use Rattle.mp_rules.specs.Reach.{reach_of_raw, reach_of_first, reach_of_step}
 use Rattle.mp_rules.specs.Machine.{Machine, Rule, coming, left, things}
 use Rattle.mp_rules.specs.Rules.{advancing, What, AnswerTo, AnswerShape, Answer, shape_of, Nothing, OneRaw, OneValue, OneSide, OneName, Parts, Shapes, NextFront, NextRaw, Operand, VariableName, NameFrom, Group, ChainRest, ShowList, SymbolList, TypeList, CommandRest}
+use Rattle.mp_vartree.specs.declared.names.Part.{Part}
 use Rattle.mp_rules.specs.Chains.{reach_of_side}
 use Rattle.mp_rules.specs.Meaning.{the}
 use Rattle.mp_expand.specs.Steps.{take_first}
