@@ -11,7 +11,7 @@ use Rattle.mp_solver.specs.Replay as event
 use Rattle.mp_report.specs.declared.error.Cap.TheVariants as cap
 use Rattle.mp_report.specs.declared.error.SourceError.TheVariants as error
 use Rattle.mp_symbols.specs.Groups.{with_symbol, with_internal}
-use Rattle.mp_values.specs.Outcome.{Outcome, Rule, ◌>>=◌, give, halt, change}
+use Rattle.mp_values.specs.Outcome.{Outcome, Rule, ◌>>=◌, give, change}
 use Rattle.mp_values.specs.Refusals.{wrong_type}
 use Rattle.mp_values.specs.declared.macros.Level.{Level}
 use Rattle.mp_values.specs.declared.macros.Level.TheVariants as level

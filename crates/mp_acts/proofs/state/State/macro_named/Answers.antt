@@ -1,4 +1,3 @@
-use Rattle.std.proofs.Common.{Option}
 use Rattle.mp_acts.specs.State.{counts_of}
 use Rattle.mp_acts.proofs.WithinLemmas.{macro_lent}
 use Rattle.mp_acts.proofs.state.State.macro_named.Goals as goal
