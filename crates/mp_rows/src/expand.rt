@@ -125,6 +125,24 @@ struct Reader {
     shown: Vec<u8>,
 }
 
+/// A step, as far as the reader minds.
+#[derive(Clone, Copy)]
+enum Shown {
+    Nothing,
+    Want(Want),
+    Front(Front),
+}
+
+fn read_as(step: Step) -> Shown {
+    match step {
+        Step::More => Shown::Nothing,
+        Step::Want(want) => Shown::Want(want),
+        Step::Front(front) => Shown::Front(front),
+        Step::Text(_) => Shown::Front(Front::Text),
+        Step::Capsule(_) => Shown::Front(Front::Capsule),
+    }
+}
+
 /// The answer to what was asked: any value, or the symbol of the front.
 fn answer_to(alloc: Global, want: Want, front: Front) -> Result<Answer, NoMemory> {
     match want {
@@ -198,15 +216,13 @@ impl Reader {
         table: &Symbols<Meaning>,
     ) -> Result<(), Stop> {
         'steps: for _ in 0..1000u32 {
-            let front = match expander.next(table)? {
-                Step::More => continue,
-                Step::Want(want) => {
+            let front = match read_as(expander.next(table)?) {
+                Shown::Nothing => continue,
+                Shown::Want(want) => {
                     self.ask(want)?;
                     continue;
                 }
-                Step::Front(front) => front,
-                Step::Text(_) => Front::Text,
-                Step::Capsule(_) => Front::Capsule,
+                Shown::Front(front) => front,
             };
             if matches!(front, Front::EndOfText) && self.asked.is_empty() {
                 return Ok(());
