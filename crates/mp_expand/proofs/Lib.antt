@@ -1,3 +1,3 @@
-mod HoldsLemmas
-mod CountLemmas
+pub mod HoldsLemmas
+pub mod CountLemmas
 mod Examples

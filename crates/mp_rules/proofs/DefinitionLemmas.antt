@@ -44,7 +44,7 @@ rest_from : (text : List Pending) (x : Pending) (s t : Expansion) → take_from 
 rest_from [] x s t e = absurd (none_is_not (ap (λ p. p.0) (ok_is e)))
 rest_from (y ∷ rest) x s t e = rest_by (nat_lt s.steps s.budget) x y s t _ e
 
-in_expander : {A : Type 0} → A × Machine → OutcomeBy Cause Expansion A
+abbrev in_expander : {A : Type 0} → A × Machine → OutcomeBy Cause Expansion A
 in_expander p = Ok (p.0, p.1.expander)
 
 of_text : {A : Type 0} (o : OutcomeBy Cause Expansion A) (x : A) (s t : Machine) → in_text s o ≡ Ok (x, t) → o ≡ Ok (x, t.expander)
@@ -70,7 +70,7 @@ module _ (s t : Machine) (r : Reading) where
   read_next now x e f =
       let left : s.expander.text ≡ x ∷ t.expander.text = rest_is x s t e in
       subst (λ (text : List Pending). read_on text r s ≡ unless_whole (is_whole now) now (read_on t.expander.text now) t) (sym left)
-      (ap (λ (o : Outcome (Option Pending)). (then) o (on t.text r)) e ∙ ap (λ (o : Outcome Reading). (then) o (λ now. unless_whole (is_whole now) now (read_on t.expander.text now))) f)
+      (ap (λ (o : Outcome (Option Pending)). (then) o (on t.expander.text r)) e ∙ ap (λ (o : Outcome Reading). (then) o (λ now. unless_whole (is_whole now) now (read_on t.expander.text now))) f)
 
   take_stops_on : (text : List Pending) (c : Cause) → expanding take_first s ≡ Err (c, t) → read_on text r s ≡ Err (c, t)
   unfolding read_on

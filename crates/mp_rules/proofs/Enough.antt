@@ -288,7 +288,7 @@ bracketed-agrees r1 r2 m s c h =
 -- a part used its front
 part_used-agrees : (p : Part) (b : ℕ) (t : Machine) → coming t + 1 ≤ b
     → Agree (part_used p t) (part_used p t) (λ answer. FewerBy b (used_by_part answer))
-part_used-agrees p b t c = given (Some p) (see front.EndOfText t) (λ answer. FewerBy b (used_by_part answer)) (record { went = c })
+part_used-agrees p b t c = given (Some p) (see front.EndOfText t) (λ answer. FewerBy b (used_by_part answer)) (record { went = omega (arith, c) })
 
 part_word-agrees : (r1 r2 : Rules) (symbol : ℕ) (w : Word) (m : ℕ) (s : Machine) → 1 ≤ weight s.front → 64 * left s + 1 ≤ m → Below r1 r2 m
     → Agree (part_by r1 (front.Word symbol w) s) (part_by r2 (front.Word symbol w) s) (λ answer. FewerBy (left s) (used_by_part answer))
@@ -359,7 +359,7 @@ begun_anew-agrees r1 r2 None m s c h = h.at PrimaryInside s (omega arith)
 variable-agrees : (r1 r2 : Rules) (symbol : ℕ) (m : ℕ) (s : Machine) → 64 * coming s + 3 < m → Below r1 r2 m
     → Agree (variable r1 symbol s) (variable r2 symbol s) (λ answer. Fewer (coming s))
 variable-agrees r1 r2 symbol m s c h =
-    agree-then (agree-then (h.at (VariableName symbol) s (omega arith)) (λ name t p.
+    agree-then {P = λ v. Fewer (coming s)} (agree-then (h.at (VariableName symbol) s (omega arith)) (λ name t p.
     weaker (variable_named-agrees symbol name t) (λ v u e. record { went = omega (arith, p.went, e.went) }))) (λ v t p.
     weaker (begun_anew-agrees r1 r2 v m t (omega (arith, p.went)) h) (λ answer u q. record { went = omega (arith, p.went, q.went) }))
 

@@ -252,14 +252,14 @@ module _ (n : Counts) where
   whole_left : {A : Type 0} (result : Result A Stop) (s t : Expansion) → IsWhole result s t → result ≡ Err stop.NoMemory → IsLeft s t
   whole_left result s t whole e = let same = whole e in (inl same.0, inl same.1)
 
-  pub taken_within : (s t : Expansion) (result : Result (Option Pending) Stop) → Yields result t (take_first s) → IsWhole result s t
+  taken_within : (s t : Expansion) (result : Result (Option Pending) Stop) → Yields result t (take_first s) → IsWhole result s t
       → IsWithin (reach_of_expansion s) n → IsWithin (reach_of_expansion t) n × IfOk result (λ x. IsWithin (reach_of_first x) n)
   taken_within s t result gives whole h =
       let holds = (invents_nothing There IsInternal).taken s (there s h) in
       (left_by (HoldsFirst There IsInternal) result s t (take_first s) gives (whole_left result s t whole) holds h,
       given_by reach_of_first (HoldsFirst There IsInternal) result t (take_first s) gives first_given holds)
 
-  pub advanced_within : (table : Table) (s t : Expansion) (result : Result Step Stop) → Yields result t (advance table s) → LosesFirst result s t
+  advanced_within : (table : Table) (s t : Expansion) (result : Result Step Stop) → Yields result t (advance table s) → LosesFirst result s t
       → All (λ entry. IsWithin (reach_of_meaning entry.1) n) table → IsWithin (reach_of_expansion s) n
       → IsWithin (reach_of_expansion t) n × IfOk result (λ x. IsWithin (reach_of_step x) n)
   advanced_within table s t result gives lost names h =
@@ -267,7 +267,7 @@ module _ (n : Counts) where
       (left_by (HoldsStep There IsInternal) result s t (advance table s) gives lost holds h,
       given_by reach_of_step (HoldsStep There IsInternal) result t (advance table s) gives step_given holds)
 
-  pub answered_within : (table : Table) (a : Answer) (x : Front) (s t : Expansion) (result : Result Step Stop) → Yields result t (answered table a x s)
+  answered_within : (table : Table) (a : Answer) (x : Front) (s t : Expansion) (result : Result Step Stop) → Yields result t (answered table a x s)
       → LosesFirst result s t → IsWithin (greatest reach_of_item (items_of a)) n → IsWithin (reach_of_expansion s) n
       → IsWithin (reach_of_expansion t) n × IfOk result (λ x. IsWithin (reach_of_step x) n)
   answered_within table a x s t result gives lost answer h =
@@ -284,3 +284,28 @@ module _ (n : Counts) where
 
   pub same_within : (s t : Expansion) → t.text ≡ s.text → t.requests ≡ s.requests → IsWithin (reach_of_expansion s) n → IsWithin (reach_of_expansion t) n
   same_within s t text requests h = rw (text, requests) h
+
+module _ (n : Counts) where
+  pub taken_text : (s t : Expansion) (result : Result (Option Pending) Stop) → Yields result t (take_first s) → IsWhole result s t
+      → IsWithin (reach_of_expansion s) n → IsWithin (reach_of_expansion t) n
+  taken_text s t result gives whole h = (taken_within n s t result gives whole h).0
+
+  pub taken_given : (s t : Expansion) (result : Result (Option Pending) Stop) → Yields result t (take_first s) → IsWhole result s t
+      → IsWithin (reach_of_expansion s) n → IfOk result (λ x. IsWithin (reach_of_first x) n)
+  taken_given s t result gives whole h = (taken_within n s t result gives whole h).1
+
+  pub advanced_text : (table : Table) (s t : Expansion) (result : Result Step Stop) → Yields result t (advance table s) → LosesFirst result s t
+      → All (λ entry. IsWithin (reach_of_meaning entry.1) n) table → IsWithin (reach_of_expansion s) n → IsWithin (reach_of_expansion t) n
+  advanced_text table s t result gives lost names h = (advanced_within n table s t result gives lost names h).0
+
+  pub advanced_given : (table : Table) (s t : Expansion) (result : Result Step Stop) → Yields result t (advance table s) → LosesFirst result s t
+      → All (λ entry. IsWithin (reach_of_meaning entry.1) n) table → IsWithin (reach_of_expansion s) n → IfOk result (λ x. IsWithin (reach_of_step x) n)
+  advanced_given table s t result gives lost names h = (advanced_within n table s t result gives lost names h).1
+
+  pub answered_text : (table : Table) (a : Answer) (x : Front) (s t : Expansion) (result : Result Step Stop) → Yields result t (answered table a x s)
+      → LosesFirst result s t → IsWithin (greatest reach_of_item (items_of a)) n → IsWithin (reach_of_expansion s) n → IsWithin (reach_of_expansion t) n
+  answered_text table a x s t result gives lost answer h = (answered_within n table a x s t result gives lost answer h).0
+
+  pub answered_given : (table : Table) (a : Answer) (x : Front) (s t : Expansion) (result : Result Step Stop) → Yields result t (answered table a x s)
+      → LosesFirst result s t → IsWithin (greatest reach_of_item (items_of a)) n → IsWithin (reach_of_expansion s) n → IfOk result (λ x. IsWithin (reach_of_step x) n)
+  answered_given table a x s t result gives lost answer h = (answered_within n table a x s t result gives lost answer h).1

@@ -1,21 +1,30 @@
 -- On names that are called: what a macro is told of its name.
-use Rattle.std.proofs.Common.{◌≡◌, ◌+◌, ℕ, List, [], ◌∷◌, ◌++◌, length, map, refl, ap, sym, ◌∙◌, arith}
+use Rattle.std.proofs.Common.{◌≡◌, ◌<◌, ◌+◌, ℕ, suc, List, [], ◌∷◌, ◌++◌, length, map, refl, ap, sym, ◌∙◌, arith}
 use Rattle.std.specs.Prelude.{take, drop}
 use Rattle.mp_values.specs.declared.item.Item.{Item}
 use Rattle.mp_values.specs.declared.item.Item.TheVariants as item
 use Rattle.mp_vartree.specs.declared.names.Part.{Part}
 use Rattle.mp_vartree.specs.declared.names.Part.TheVariants as part
 use Rattle.mp_acts.specs.Counts.{Counts, nothing, greatest, IsWithin}
-use Rattle.mp_acts.specs.Reach.{reach_of_item, reach_of_part, one_symbol}
+use Rattle.mp_values.specs.declared.value.Value.{Value}
+use Rattle.mp_acts.specs.Reach.{reach, reach_of_item, reach_of_part, one_symbol}
+use Rattle.mp_expand.specs.Advance.{items_of}
+use Rattle.mp_expand.specs.declared.step.Answer.{Answer}
+use Rattle.mp_expand.specs.declared.step.Answer.TheVariants as answer
 use Rattle.mp_rules.specs.Rules.{item_of_part, name_items, called_with}
 use Rattle.mp_rules.proofs.ReachLemmas.{first_within, none_in, both_within, take_within, drop_within}
+
+-- a value in place of an expression speaks of what the value does
+capsule_within : (n : Counts) (v : Value) → IsWithin (reach v) n → IsWithin (greatest reach_of_item (item.Capsule v ∷ [])) n
+unfolding greatest
+capsule_within n v h = both_within (reach v) nothing n h (none_in n)
 
 -- a name as items speaks of what its parts do
 part_within : (n : Counts) (p : Part) → IsWithin (reach_of_part p) n → IsWithin (reach_of_item (item_of_part p)) n
 part_within n (part.Sym symbol) h = h
 part_within n (part.Sub units) h = none_in n
 
-pub parts_within : (n : Counts) (parts : List Part) → IsWithin (greatest reach_of_part parts) n → IsWithin (greatest reach_of_item (map item_of_part parts)) n
+parts_within : (n : Counts) (parts : List Part) → IsWithin (greatest reach_of_part parts) n → IsWithin (greatest reach_of_item (map item_of_part parts)) n
 unfolding greatest
 parts_within n [] h = none_in n
 parts_within n (p ∷ parts) h =
@@ -33,10 +42,13 @@ unfolding greatest
 three_within n a b h k =
     both_within (greatest reach_of_item a) _ n h (both_within (greatest reach_of_item b) _ n k (both_within nothing nothing n (none_in n) (none_in n)))
 
-pub called_within : (n : Counts) (symbol : ℕ) (parts : List Part) → IsWithin (one_symbol symbol) n → IsWithin (greatest reach_of_part parts) n
+symbol_within : (n : Counts) (symbol : ℕ) → symbol < n.symbols → IsWithin (one_symbol symbol) n
+symbol_within n symbol h = record { unknowns = omega arith; slots = omega arith; symbols = omega (arith, h); internals = omega arith }
+
+of_name_within : (n : Counts) (symbol : ℕ) (parts : List Part) → symbol < n.symbols → IsWithin (greatest reach_of_part parts) n
     → IsWithin (greatest (greatest reach_of_item) (called_with symbol parts)) n
-called_within n symbol parts a b =
-    let name = name_within n symbol parts a b in
+of_name_within n symbol parts a b =
+    let name = name_within n symbol parts (symbol_within n symbol a) b in
     three_within n (take (length parts) (name_items symbol parts)) (drop (length parts) (name_items symbol parts))
     (take_within reach_of_item n (length parts) (name_items symbol parts) name) (drop_within reach_of_item n (length parts) (name_items symbol parts) name)
 
@@ -50,11 +62,11 @@ drop_all (x ∷ xs) ys = drop_all xs ys
 
 length_last : (xs : List Item) (x : Item) → length (xs ++ x ∷ []) ≡ length xs + 1
 length_last [] x = refl
-length_last (y ∷ xs) x = ap (λ n. 1 + n) (length_last xs x)
+length_last (y ∷ xs) x = let more = length_last xs x in omega (arith, more)
 
 length_map : (parts : List Part) → length (map item_of_part parts) ≡ length parts
 length_map [] = refl
-length_map (p ∷ parts) = ap (λ n. 1 + n) (length_map parts)
+length_map (p ∷ parts) = ap suc (length_map parts)
 
 -- what stands before the last part, and that part
 pub split_at_last : (symbol : ℕ) (parts : List Part) (before : List Item) (last : Item) → before ++ last ∷ [] ≡ name_items symbol parts
@@ -62,3 +74,15 @@ pub split_at_last : (symbol : ℕ) (parts : List Part) (before : List Item) (las
 split_at_last symbol parts before last e =
     let count : length parts ≡ length before = omega (arith, length_last before last, length_map parts, ap length e) in
     rw (count, sym e, take_all before (last ∷ []), drop_all before (last ∷ [])) refl
+
+pub called_within : (n : Counts) (symbol : ℕ) (parts : List Part) (arguments : List (List Item)) → arguments ≡ called_with symbol parts → symbol < n.symbols
+    → IsWithin (greatest reach_of_part parts) n → IsWithin (greatest (greatest reach_of_item) arguments) n
+called_within n symbol parts arguments is a b = rw is (of_name_within n symbol parts a b)
+
+-- what is answered speaks of what the operand does
+pub value_within : (n : Counts) (v : Value) (a : Answer) → a ≡ answer.Value v → IsWithin (reach v) n → IsWithin (greatest reach_of_item (items_of a)) n
+value_within n v a is h = rw is (capsule_within n v h)
+
+pub suffix_within : (n : Counts) (parts : List Part) (a : Answer) → a ≡ answer.Suffix (map item_of_part parts) → IsWithin (greatest reach_of_part parts) n
+    → IsWithin (greatest reach_of_item (items_of a)) n
+suffix_within n parts a is h = rw is (parts_within n parts h)

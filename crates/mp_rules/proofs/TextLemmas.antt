@@ -43,7 +43,7 @@ record AsManySteps (s t : Expansion) : Type 0 where
 
 paid : {A : Type 0} (price : A → ℕ) (s : Expansion) (o : OutcomeBy Cause Expansion A) → Pays price s o → AfterText o (λ x. FewerSteps (price x) s)
 paid price s (Ok x) p = record { went = p.1 }
-paid price s (Err e) p = p.1.1
+paid price s (Err e) p = p.2
 
 refused_spent : (c : Cause) (t : Expansion) → IsRefused c → IsSpentText c t
 refused_spent (Refused error) t p = tt
@@ -56,8 +56,8 @@ record Freely {A : Type 0} (Q : A → Type 0) (s : Expansion) (x : A) (t : Expan
   such : Q x
 
 freed : {A : Type 0} (Q : A → Type 0) (s : Expansion) (o : OutcomeBy Cause Expansion A) → IsFree Q s o → AfterText o (Freely Q s)
-freed Q s (Ok x) p = record { same = record { steps = p.1.0; budget = p.0 }; such = p.1.1 }
-freed Q s (Err e) p = refused_spent e.0 e.1 p.1.1
+freed Q s (Ok x) p = record { same = record { steps = p.1; budget = p.0 }; such = p.2 }
+freed Q s (Err e) p = refused_spent e.0 e.1 p.2
 
 -- a call that asks for more used a front
 weight_used : (x : Front) → (x ≢ front.EndOfText) → 1 ≤ weight x
@@ -196,7 +196,7 @@ free_by Q (Err made) s t o gives p = tt
 answered_left : (result : Result Step Stop) (s : Machine) (t : Expansion)
     → IfOk result (λ x. (t.budget ≡ s.expander.budget) × (t.steps ≡ s.expander.steps) × MayFollow s.front x)
     → IfOk result (λ x. left (record s { front = front.EndOfText; expander = t }) + used_by_step x ≤ left s)
-answered_left (Ok x) s t p = omega (arith, p.0, p.1.0, may_use s.front x p.1.1)
+answered_left (Ok x) s t p = omega (arith, p.0, p.1, may_use s.front x p.2)
 answered_left (Err made) s t p = tt
 
 -- an answer to a call
@@ -214,7 +214,7 @@ answers_call a s t result gives kept given = record {
 
 free_left : (result : Result (Unit {0}) Stop) (s : Machine) (t : Expansion)
     → IfOk result (λ x. (t.budget ≡ s.expander.budget) × (t.steps ≡ s.expander.steps) × ⊤) → IfOk result (λ x. left (record s { expander = t }) + 0 ≤ left s)
-free_left (Ok x) s t p = omega (arith, p.0, p.1.0)
+free_left (Ok x) s t p = omega (arith, p.0, p.1)
 free_left (Err made) s t p = tt
 
 nothing_given : (n : Counts) (result : Result (Unit {0}) Stop) → IfOk result (λ x. IsWithin nothing n)

@@ -151,7 +151,6 @@ impl Evaluator {
     }
 
     /// What is first in the text, as it stands: a step.
-    #[tactic(auto, using(crate::proofs::TextLemmas::take_within, crate::proofs::TextLemmas::take_counted, crate::proofs::TextLemmas::stops_in_text))]
     pub(crate) fn take(&mut self) -> Result<Option<Pending>, Stop>
         ensures took { Took result self.old self.new }
         ensures front { self.new.front ≡ self.old.front }
@@ -250,6 +249,7 @@ impl Evaluator {
         ensures front { result ≡ self.old.held }
         ensures within { IsWithin (reach_of_held result) (things self.old) }
         ensures machine { self.new ≡ record self.old { held = None } }
+        ensures free { self.old.held ≡ None → self.new ≡ self.old }
     {
         self.held.take()
     }

@@ -1,5 +1,10 @@
 //! Fronts and raw items: how the next one is got, and how calls of macros are answered on the way.
 
+ghost use Rattle.std.specs.Prelude.{map};
+ghost use Rattle.mp_values.specs.Outcome.{give};
+ghost use Rattle.mp_acts.specs.Counts.{IsWithin, greatest};
+ghost use Rattle.mp_acts.specs.Reach.{reach, reach_of_part};
+ghost use Rattle.mp_rules.specs.Machine.{things};
 ghost use Rattle.mp_rules.specs.Rules.{NextFront, NextRaw, Operand, raw_symbol};
 ghost use Rattle.mp_rules.specs.Rules as rules;
 ghost use Rattle.mp_rules.specs.Promises.{Means, ActsAnswer, UsesSymbol};
@@ -7,23 +12,23 @@ ghost use Rattle.mp_rules.specs.Meaning.{the};
 
 use crate::evaluator::Evaluator;
 use crate::front::{Raw, Taken};
-use crate::names::part_items;
+use crate::names::{answer_of_suffix, answer_of_value};
 use mp_expand::{Answer, Front, Step, Want};
-use mp_scaled::Shared;
-use mp_values::Stop;
+use mp_values::{Stop, Value};
+use mp_vartree::Suffix;
 
 impl Evaluator {
     /// The next front comes to hand: ends of lines and of files are passed over, and macros are called.
     #[cycle(eval)]
-    #[tactic(auto, using(crate::proofs::Cases::next_front_is))]
+    #[tactic(auto, using(crate::proofs::Cases::next_front_is, crate::proofs::FrontLemmas::next_more, crate::proofs::FrontLemmas::next_wanted))]
     pub(crate) fn next_front(&mut self) -> Result<(), Stop>
         ensures { Means NextFront result self.old self.new }
     {
-        if let Some(front) = self.release() {
-            self.see(front);
-            return Ok(());
-        }
         'items: loop {
+            if let Some(front) = self.release() {
+                self.see(front);
+                return Ok(());
+            }
             match self.advance()? {
                 Step::More => {}
                 Step::Front(front) => {
@@ -68,13 +73,31 @@ impl Evaluator {
         match want {
             Want::Expression => {
                 let value = self.expression()?;
-                Ok(Answer::Value(Shared::new(self.alloc, value)?))
+                self.value_answer(value)
             }
             Want::Suffix => {
                 let parts = self.suffix()?;
-                Ok(Answer::Suffix(part_items(self.alloc, parts.as_slice())?))
+                self.suffix_answer(parts)
             }
         }
+    }
+
+    #[tactic(auto, using(crate::proofs::NameLemmas::value_within))]
+    fn value_answer(&self, value: Value) -> Result<Answer, Stop>
+        requires { IsWithin (reach value) (things self.now) }
+        ensures { ActsAnswer (give (Answer.Value value)) result self.now self.now }
+    {
+        let answer = answer_of_value(self.alloc, value)?;
+        Ok(answer)
+    }
+
+    #[tactic(auto, using(crate::proofs::NameLemmas::suffix_within))]
+    fn suffix_answer(&self, parts: Suffix) -> Result<Answer, Stop>
+        requires { IsWithin (greatest reach_of_part parts) (things self.now) }
+        ensures { ActsAnswer (give (Answer.Suffix (map rules.item_of_part parts))) result self.now self.now }
+    {
+        let answer = answer_of_suffix(self.alloc, parts.as_slice())?;
+        Ok(answer)
     }
 
     /// The next item as it stands; line ends and file ends are passed over.

@@ -4,8 +4,9 @@ ghost use Rattle.std.specs.Prelude.{◌≡◌, [], ◌∷◌, ◌++◌, IfOk, On
 ghost use Rattle.mp_values.specs.Ends.{IsNoEnd};
 ghost use Rattle.mp_rules.specs.Rules as rules;
 
+use mp_expand::Answer;
 use mp_scaled::{NoMemory, Shared};
-use mp_values::{Arguments, Item, Items, Scaled};
+use mp_values::{Arguments, Item, Items, Scaled, Value};
 use mp_vartree::Part;
 use std::alloc::Global;
 
@@ -29,13 +30,20 @@ fn append_parts(parts: &[Part], to: &mut Items) -> Result<(), NoMemory>
     Ok(())
 }
 
-/// Parts of a name as items.
-pub(crate) fn part_items(alloc: Global, parts: &[Part]) -> Result<Shared<Items>, NoMemory>
-    ensures { IfOk result (λ items. items ≡ map rules.item_of_part parts.now) }
+/// The value of an expression, as an answer to a call.
+pub(crate) fn answer_of_value(alloc: Global, value: Value) -> Result<Answer, NoMemory>
+    ensures { IfOk result (λ answer. answer ≡ Answer.Value value) }
+{
+    Ok(Answer::Value(Shared::new(alloc, value)?))
+}
+
+/// The parts of a suffix, as an answer to a call.
+pub(crate) fn answer_of_suffix(alloc: Global, parts: &[Part]) -> Result<Answer, NoMemory>
+    ensures { IfOk result (λ answer. answer ≡ Answer.Suffix (map rules.item_of_part parts.now)) }
 {
     let mut items = Items::new(alloc);
     append_parts(parts, &mut items)?;
-    Shared::new(alloc, items)
+    Ok(Answer::Suffix(Shared::new(alloc, items)?))
 }
 
 /// One item alone.

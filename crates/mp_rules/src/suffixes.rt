@@ -8,6 +8,8 @@ ghost use Rattle.mp_rules.specs.Machine.{things};
 ghost use Rattle.mp_rules.specs.Promises.{Means, Acts, Uses, ActsPart, UsesName};
 ghost use Rattle.mp_rules.specs.Meaning.{the};
 ghost use Rattle.mp_rules.specs.Rules as rules;
+ghost use Rattle.mp_rules.specs.Steps.{expanding};
+ghost use Rattle.mp_expand.specs.Calls.{call};
 
 use crate::evaluator::Evaluator;
 use crate::named::Named;
@@ -104,7 +106,6 @@ impl Evaluator {
 
     /// Calls the macro whose name was read; one with `@#` at the end of its name is not built.
     #[cycle(eval)]
-    #[tactic(auto, using(crate::proofs::NameLemmas::called_within))]
     fn call_named(&mut self, symbol: u32, parts: &Suffix, called: Shared<Macro>) -> Result<Named, Stop>
         requires symbol { symbol < symbol_count self.old.acts }
         requires parts { IsWithin (greatest reach_of_part parts.now) (things self.old) }
@@ -113,13 +114,29 @@ impl Evaluator {
     {
         match called.get().level {
             Level::Variable => {
-                let arguments = call_arguments(self.alloc, symbol, parts.as_slice())?;
-                self.call(called, arguments)?;
+                self.begin_call(symbol, parts, called)?;
                 self.next_front()?;
                 Ok(Named::Called)
             }
             level => Err(Stop::not_built(self.alloc, level.definition().name())),
         }
+    }
+
+    /// Calls a macro of a variable, with what it is told of its name.
+    #[tactic(auto, using(crate::proofs::NameLemmas::called_within))]
+    fn begin_call(
+        &mut self,
+        symbol: u32,
+        parts: &Suffix,
+        called: Shared<Macro>,
+    ) -> Result<(), Stop>
+        requires symbol { symbol < symbol_count self.old.acts }
+        requires parts { IsWithin (greatest reach_of_part parts.now) (things self.old) }
+        requires body { IsWithin (reach_of_macro called) (things self.old) }
+        ensures acts { Acts (expanding (call called (rules.called_with symbol parts.now))) result self.old self.new }
+    {
+        let arguments = call_arguments(self.alloc, symbol, parts.as_slice())?;
+        self.call(called, arguments)
     }
 
     fn empty_bracket(&self) -> Result<(), Stop>

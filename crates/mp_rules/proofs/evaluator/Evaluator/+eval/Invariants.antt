@@ -1,4 +1,4 @@
-use Rattle.std.proofs.Common.{◌≡◌, ◌≤◌, ◌+◌, ◌*◌, [], None, reverse}
+use Rattle.std.proofs.Common.{◌≡◌, ◌≤◌, ◌+◌, ◌*◌, [], reverse}
 use Rattle.mp_acts.specs.Counts.{greatest, IsWithin}
 use Rattle.mp_acts.specs.Reach.{reach, reach_of_part}
 use Rattle.mp_rules.specs.Machine.{coming, left, things}
@@ -224,7 +224,6 @@ invariant-next_front-items l = record {
   kept : l.self.expander.budget ≡ l.fn.self.expander.budget;
   files : l.self.sources ≡ l.fn.self.sources;
   grown : IsWithin (things l.fn.self) (things l.self);
-  free : l.self.held ≡ None;
 }
 
 abbrev pub decreases-next_front-items : goal.decreases-next_front-items
