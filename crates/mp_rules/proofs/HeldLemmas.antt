@@ -105,9 +105,10 @@ module _ (n : Counts) where
 
   pending_there : (x : Pending) → IsWithin (reach_of_pending x) n → HoldsPending There IsInternal x
   pending_there (pending.Item x) h = h
-  pending_there (pending.Turn turn) h =
-      (items_there turn.body (second_of (reach_of_left_over turn.left_over) (greatest reach_of_item turn.body) n h),
-      over_there turn.left_over (first_of (reach_of_left_over turn.left_over) (greatest reach_of_item turn.body) n h))
+  pending_there (pending.Turn turn) h = (
+    items_there turn.body (second_of (reach_of_left_over turn.left_over) (greatest reach_of_item turn.body) n h),
+    over_there turn.left_over (first_of (reach_of_left_over turn.left_over) (greatest reach_of_item turn.body) n h),
+  )
 
   pending_within : (x : Pending) → HoldsPending There IsInternal x → IsWithin (reach_of_pending x) n
   pending_within (pending.Item x) h = h
@@ -255,25 +256,28 @@ module _ (n : Counts) where
   taken_within : (s t : Expansion) (result : Result (Option Pending) Stop) → Yields result t (take_first s) → IsWhole result s t
       → IsWithin (reach_of_expansion s) n → IsWithin (reach_of_expansion t) n × IfOk result (λ x. IsWithin (reach_of_first x) n)
   taken_within s t result gives whole h =
-      let holds = (invents_nothing There IsInternal).taken s (there s h) in
-      (left_by (HoldsFirst There IsInternal) result s t (take_first s) gives (whole_left result s t whole) holds h,
-      given_by reach_of_first (HoldsFirst There IsInternal) result t (take_first s) gives first_given holds)
+      let holds = (invents_nothing There IsInternal).taken s (there s h) in (
+        left_by (HoldsFirst There IsInternal) result s t (take_first s) gives (whole_left result s t whole) holds h,
+        given_by reach_of_first (HoldsFirst There IsInternal) result t (take_first s) gives first_given holds,
+      )
 
   advanced_within : (table : Table) (s t : Expansion) (result : Result Step Stop) → Yields result t (advance table s) → LosesFirst result s t
       → All (λ entry. IsWithin (reach_of_meaning entry.1) n) table → IsWithin (reach_of_expansion s) n
       → IsWithin (reach_of_expansion t) n × IfOk result (λ x. IsWithin (reach_of_step x) n)
   advanced_within table s t result gives lost names h =
-      let holds = (invents_nothing There IsInternal).advanced table s (table_there table names) (there s h) in
-      (left_by (HoldsStep There IsInternal) result s t (advance table s) gives lost holds h,
-      given_by reach_of_step (HoldsStep There IsInternal) result t (advance table s) gives step_given holds)
+      let holds = (invents_nothing There IsInternal).advanced table s (table_there table names) (there s h) in (
+        left_by (HoldsStep There IsInternal) result s t (advance table s) gives lost holds h,
+        given_by reach_of_step (HoldsStep There IsInternal) result t (advance table s) gives step_given holds,
+      )
 
   answered_within : (table : Table) (a : Answer) (x : Front) (s t : Expansion) (result : Result Step Stop) → Yields result t (answered table a x s)
       → LosesFirst result s t → IsWithin (greatest reach_of_item (items_of a)) n → IsWithin (reach_of_expansion s) n
       → IsWithin (reach_of_expansion t) n × IfOk result (λ x. IsWithin (reach_of_step x) n)
   answered_within table a x s t result gives lost answer h =
-      let holds = (invents_nothing There IsInternal).answered table a x s (items_there (items_of a) answer) (there s h) in
-      (left_by (HoldsStep There IsInternal) result s t (answered table a x s) gives lost holds h,
-      given_by reach_of_step (HoldsStep There IsInternal) result t (answered table a x s) gives step_given holds)
+      let holds = (invents_nothing There IsInternal).answered table a x s (items_there (items_of a) answer) (there s h) in (
+        left_by (HoldsStep There IsInternal) result s t (answered table a x s) gives lost holds h,
+        given_by reach_of_step (HoldsStep There IsInternal) result t (answered table a x s) gives step_given holds,
+      )
 
   pub called_text_within : (m : Macro) (got : List (List Item)) (s t : Expansion) (result : Result (Unit {0}) Stop) → Yields result t (call m got s)
       → IsWhole result s t → IsWithin (reach_of_macro m) n → IsWithin (greatest (greatest reach_of_item) got) n → IsWithin (reach_of_expansion s) n

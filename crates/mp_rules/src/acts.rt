@@ -20,7 +20,9 @@ use crate::chain_side::ChainSide;
 use crate::evaluator::Evaluator;
 use mp_macro::Defined;
 use mp_scaled::{Shared, SharedSlice};
-use mp_values::{Kind, Macro, Scaled, Secondary, Speech, Stop, SymbolCommand, Tertiary, Unary, Value};
+use mp_values::{
+    Kind, Macro, Scaled, Secondary, Speech, Stop, SymbolCommand, Tertiary, Unary, Value,
+};
 use mp_vartree::{Pattern, Suffix};
 
 impl Evaluator {
@@ -119,7 +121,11 @@ impl Evaluator {
     }
 
     /// The macro that a name, or the shortest beginning of it that is one, is the name of.
-    pub(crate) fn macro_named(&self, root: u32, name: &Suffix) -> Result<Option<Shared<Macro>>, Stop>
+    pub(crate) fn macro_named(
+        &self,
+        root: u32,
+        name: &Suffix,
+    ) -> Result<Option<Shared<Macro>>, Stop>
         ensures exact { IfOk result (λ m. m ≡ variables.macro_named self.now.acts root name.now) }
         ensures within { IfOk result (λ m. IsWithin (reach_of_named_macro m) (things self.now)) }
         ensures starved { OnErr result (result ≡ Err Stop.NoMemory) }

@@ -58,7 +58,11 @@ fn one_item(alloc: Global, item: Item) -> Result<Shared<Items>, NoMemory>
 
 /// What the macro of a variable is told of the name that it is called by.
 #[tactic(auto, using(crate::proofs::NameLemmas::split_at_last))]
-pub(crate) fn call_arguments(alloc: Global, symbol: u32, parts: &[Part]) -> Result<Arguments, NoMemory>
+pub(crate) fn call_arguments(
+    alloc: Global,
+    symbol: u32,
+    parts: &[Part],
+) -> Result<Arguments, NoMemory>
     ensures { IfOk result (λ arguments. arguments ≡ rules.called_with symbol parts.now) }
 {
     let mut before = Items::new(alloc);

@@ -121,7 +121,9 @@ impl Evaluator {
         ensures { Acts (rules.closed pair) result self.now self.now }
     {
         match self.sign() {
-            Front::Right(_, other) if other.left == pair.left && other.right == pair.right => Ok(()),
+            Front::Right(_, other) if other.left == pair.left && other.right == pair.right => Ok(
+                (),
+            ),
             _ => Err(self.unexpected(self.acts.symbol_name(pair.right))),
         }
     }

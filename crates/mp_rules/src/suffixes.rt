@@ -106,7 +106,12 @@ impl Evaluator {
 
     /// Calls the macro whose name was read; one with `@#` at the end of its name is not built.
     #[cycle(eval)]
-    fn call_named(&mut self, symbol: u32, parts: &Suffix, called: Shared<Macro>) -> Result<Named, Stop>
+    fn call_named(
+        &mut self,
+        symbol: u32,
+        parts: &Suffix,
+        called: Shared<Macro>,
+    ) -> Result<Named, Stop>
         requires symbol { symbol < symbol_count self.old.acts }
         requires parts { IsWithin (greatest reach_of_part parts.now) (things self.old) }
         requires body { IsWithin (reach_of_macro called) (things self.old) }
@@ -124,12 +129,7 @@ impl Evaluator {
 
     /// Calls a macro of a variable, with what it is told of its name.
     #[tactic(auto, using(crate::proofs::NameLemmas::called_within))]
-    fn begin_call(
-        &mut self,
-        symbol: u32,
-        parts: &Suffix,
-        called: Shared<Macro>,
-    ) -> Result<(), Stop>
+    fn begin_call(&mut self, symbol: u32, parts: &Suffix, called: Shared<Macro>) -> Result<(), Stop>
         requires symbol { symbol < symbol_count self.old.acts }
         requires parts { IsWithin (greatest reach_of_part parts.now) (things self.old) }
         requires body { IsWithin (reach_of_macro called) (things self.old) }
