@@ -82,7 +82,6 @@ impl Evaluator {
         }
     }
 
-    #[tactic(auto, using(crate::proofs::NameLemmas::value_within))]
     fn value_answer(&self, value: Value) -> Result<Answer, Stop>
         requires { IsWithin (reach value) (things self.now) }
         ensures { ActsAnswer (give (Answer.Value value)) result self.now self.now }
@@ -91,7 +90,6 @@ impl Evaluator {
         Ok(answer)
     }
 
-    #[tactic(auto, using(crate::proofs::NameLemmas::suffix_within))]
     fn suffix_answer(&self, parts: Suffix) -> Result<Answer, Stop>
         requires { IsWithin (greatest reach_of_part parts) (things self.now) }
         ensures { ActsAnswer (give (Answer.Suffix (map rules.item_of_part parts))) result self.now self.now }

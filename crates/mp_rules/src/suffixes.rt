@@ -128,7 +128,6 @@ impl Evaluator {
     }
 
     /// Calls a macro of a variable, with what it is told of its name.
-    #[tactic(auto, using(crate::proofs::NameLemmas::called_within))]
     fn begin_call(&mut self, symbol: u32, parts: &Suffix, called: Shared<Macro>) -> Result<(), Stop>
         requires symbol { symbol < symbol_count self.old.acts }
         requires parts { IsWithin (greatest reach_of_part parts.now) (things self.old) }
