@@ -1,5 +1,5 @@
 -- On the meaning: how far each rule goes, and that more rules inside one another than enough change nothing.
-use Rattle.std.proofs.Common.{◌≡◌, ◌<◌, ◌≤◌, ◌+◌, ◌*◌, ℕ, ℤ, List, [], ◌∷◌, ◌++◌, length, map, zero, suc, refl, sym, subst, ap, ◌∙◌, arith, Option, Some, None, Ok, Err, Bool, true, false}
+use Rattle.std.proofs.Common.{◌≡◌, ◌<◌, ◌≤◌, ◌+◌, ◌*◌, ℕ, ℤ, List, [], ◌∷◌, ◌++◌, length, map, zero, suc, refl, ap, ◌∙◌, arith, Option, Some, None, Ok, Err, Bool, true, false}
 use Rattle.std.specs.Prelude.{codes, nat_lt}
 use Rattle.mp_report.specs.declared.error.Cap.TheVariants as cap
 use Rattle.mp_report.specs.declared.error.SourceError.TheVariants as error

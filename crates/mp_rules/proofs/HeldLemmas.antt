@@ -1,11 +1,9 @@
 -- What is left of a text, and what is given of it, speaks of no more than was there: expansion invents nothing.
-use Rattle.std.proofs.Common.{◌≡◌, ◌≢◌, ◌<◌, ◌≤◌, ℕ, suc, List, [], ◌∷◌, Option, Some, None, Result, Ok, Err, inl, inr, subst, refl, arith}
+use Rattle.std.proofs.Common.{◌≡◌, ◌<◌, ℕ, List, [], ◌∷◌, Option, Some, None, Result, Ok, Err, inl, subst, refl, arith}
 use Rattle.std.specs.Prelude.{⊤, All, IfOk}
 use Rattle.std.proofs.lemmas.List.Elements.{All-nil, All-cons, All-head, All-tail}
-use Rattle.mp_symbols.specs.Names.{Names}
 use Rattle.mp_values.specs.Outcome.{OutcomeBy, Cause, Yields}
 use Rattle.mp_values.specs.declared.item.Item.{Item}
-use Rattle.mp_values.specs.declared.item.Item.TheVariants as item
 use Rattle.mp_values.specs.declared.macros.Macro.{Macro}
 use Rattle.mp_values.specs.declared.meaning.Delimiters.{Delimiters}
 use Rattle.mp_values.specs.declared.meaning.Meaning.{Meaning}
@@ -16,7 +14,7 @@ use Rattle.mp_values.specs.declared.turn.LeftOver.{LeftOver}
 use Rattle.mp_values.specs.declared.turn.LeftOver.TheVariants as left_over
 use Rattle.mp_values.specs.declared.turn.Pending.{Pending}
 use Rattle.mp_values.specs.declared.turn.Pending.TheVariants as pending
-use Rattle.mp_acts.specs.Counts.{Counts, nothing, most, greatest, IsWithin}
+use Rattle.mp_acts.specs.Counts.{Counts, most, greatest, IsWithin}
 use Rattle.mp_acts.specs.Reach.{reach, reach_of_item, reach_of_macro, reach_of_meaning, reach_of_pair, one_symbol, one_internal}
 use Rattle.mp_expand.specs.Expansion.{Expansion, IsWhole, LosesFirst, IsLeft}
 use Rattle.mp_expand.specs.Steps.{take_first}

@@ -1,5 +1,5 @@
 -- On the text within a run: how far the expander goes.
-use Rattle.std.proofs.Common.{◌≡◌, ◌≢◌, ◌≤◌, ◌+◌, ◌-◌, ℕ, List, Option, Some, None, Result, Ok, Err, refl, ap, subst, arith}
+use Rattle.std.proofs.Common.{◌≡◌, ◌≢◌, ◌≤◌, ◌+◌, ◌-◌, ℕ, List, Option, Result, Ok, Err, refl, ap, subst, arith}
 use Rattle.std.specs.Prelude.{⊤, IfOk}
 use Rattle.mp_values.specs.Outcome.{OutcomeBy, Yields, Cause, Refused, OutOfSteps, Unread}
 use Rattle.mp_values.specs.declared.item.Item.{Item}

@@ -1,5 +1,5 @@
 -- The single steps of a run.
-use Rattle.std.specs.Prelude.{ℕ, List, [], Option, Ok, Err, Some, None}
+use Rattle.std.specs.Prelude.{ℕ, List, [], Ok, Err, Some}
 use Rattle.mp_report.specs.declared.place.Place.{Place}
 use Rattle.mp_values.specs.Outcome.{OutcomeBy, Cause, Refused}
 use Rattle.mp_values.specs.Outcome as act

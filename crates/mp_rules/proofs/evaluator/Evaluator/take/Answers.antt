@@ -1,4 +1,4 @@
-use Rattle.std.proofs.Common.{◌≡◌, rules, subst, sym}
+use Rattle.std.proofs.Common.{◌≡◌, rules, subst}
 use Rattle.mp_acts.specs.State.{counts}
 use Rattle.mp_rules.specs.Machine.{Machine}
 use Rattle.mp_rules.specs.Promises.{Took}
