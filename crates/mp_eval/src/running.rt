@@ -40,7 +40,8 @@ fn put_file(
     ensures within { OnOk result (IsWithin (reach_of_expansion expander.new) (counts acts.new)) }
 {
     let tokens = acts.tokens_of_file(bytes)?;
-    expander.start(number, Shared::new(alloc, tokens)?)
+    expander.start(number, Shared::new(alloc, tokens)?)?;
+    Ok(())
 }
 
 /// The same of what is read before the main file; an empty prelude has no items at all.
