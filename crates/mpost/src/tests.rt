@@ -739,19 +739,6 @@ fn macros_are_called(rt: HostRuntime) -> Result<(), Fail> {
     expect_texts(&rt, rt.alloc(), &MACROS)
 }
 
-/// A macro that is its own body takes all steps, and no memory for them.
-#[test]
-fn a_macro_calls_itself(rt: HostRuntime) -> Result<(), Fail> {
-    let left = run_text(rt.alloc(), "def f=f enddef; f")?;
-    assert_eq!(rt;
-        left.written.as_slice(),
-        b"mpost: out of steps\n".as_slice()
-    );
-    assert_eq!(rt; left.status, 3);
-    assert_eq!(rt; left.steps, 10000000);
-    Ok(())
-}
-
 #[test]
 fn long_texts_end_so(rt: HostRuntime) -> Result<(), Fail> {
     for (first, piece, times, last, wanted) in LONG {
