@@ -17,8 +17,11 @@ use Rattle.mp_expand.specs.Steps.{take_first}
 use Rattle.mp_expand.specs.Fronts.{Table}
 use Rattle.mp_expand.specs.Advance.{advance, answered}
 use Rattle.mp_expand.specs.declared.front.Front.TheVariants as front
+use Rattle.mp_expand.specs.declared.request.Behind.TheVariants as behind
+use Rattle.mp_expand.specs.declared.request.Call.{Call}
 use Rattle.mp_expand.specs.declared.request.Need.TheVariants as need
 use Rattle.mp_expand.specs.declared.request.Request.{Request}
+use Rattle.mp_expand.specs.declared.request.Until.TheVariants as until
 use Rattle.mp_expand.specs.declared.step.Answer.TheVariants as answer
 use Rattle.mp_expand.specs.declared.step.Step.TheVariants as step
 
@@ -28,7 +31,7 @@ parentheses = record { left = 0; right = 1 }
 abbrev table : Table
 table =
     (codes "(", meaning.Left parentheses) ∷ (codes ")", meaning.Right parentheses) ∷ (codes ",", meaning.Word word.Comma)
-    ∷ (codes "\\", meaning.Word word.Backslash) ∷ (codes "a", meaning.NewTag) ∷ []
+    ∷ (codes "\\", meaning.Word word.Backslash) ∷ (codes "a", meaning.NewTag) ∷ (codes ";", meaning.Word word.Semicolon) ∷ []
 
 abbrev a : Item
 a = Symbol 4
@@ -41,9 +44,13 @@ twice = record { params = kind.Text ∷ []; body = Param 0 ∷ Param 0 ∷ []; l
 abbrev left : ℕ → List Item → List Request → Expansion
 left taken items calls = record { text = items_pending items; last = record { file = 0; line = 0 }; steps = taken; budget = 9; nesting = 1; requests = calls }
 
--- its call, which has read these items
+-- a call of a macro that has read these items
+abbrev call_of : Macro → List Item → Call
+call_of m items = record { called = m; got = []; next = 0; text = items }
+
+-- its call
 abbrev reading : ℕ → List Item → Request
-reading depth items = record { called = twice; got = []; next = 0; need = need.Text parentheses depth; text = items }
+reading depth items = record { call = call_of twice items; need = need.Text (until.Delimiter parentheses) depth }
 
 backslash : advance table (left 0 (Symbol 3 ∷ a ∷ []) []) ≡ Ok (step.More, left 1 (a ∷ []) [])
 unfolding advance take_first
@@ -61,7 +68,7 @@ outer = refl
 
 -- a call of a macro with one argument, which waits for it
 abbrev waiting : Request
-waiting = record { called = record twice { params = kind.Suffix ∷ [] }; got = []; next = 0; need = need.Answer parentheses; text = [] }
+waiting = record { call = call_of (record twice { params = kind.Suffix ∷ [] }) []; need = need.Answer (behind.Delimiter parentheses) }
 
 closed : answered table (answer.Suffix (a ∷ [])) (front.Right 1 parentheses) (left 1 [] (waiting ∷ [])) ≡ Ok (step.More, record (left 1 (a ∷ a ∷ []) []) { nesting = 0 })
 unfolding answered
@@ -71,3 +78,20 @@ closed = refl
 excess : answered table (answer.Suffix (a ∷ [])) (front.Word 2 word.Comma) (left 1 [] (waiting ∷ [])) ≡ Err (Refused error.BadArguments, record (left 1 [] []) { nesting = 0 })
 unfolding answered
 excess = refl
+
+-- a text without delimiters: what ends the statement stands behind the body again
+abbrev statement : Request
+statement = record { call = call_of (record twice { params = kind.BareText ∷ [] }) (a ∷ []); need = need.Text until.Statement 0 }
+
+ends : advance table (left 0 (Symbol 5 ∷ a ∷ []) (statement ∷ [])) ≡ Ok (step.More, left 1 (a ∷ a ∷ Symbol 5 ∷ a ∷ []) [])
+unfolding advance take_first
+ends = refl
+
+-- the last argument without delimiters: the front behind it was put back
+abbrev last : Request
+last = record { call = call_of (record twice { params = kind.BareSuffix ∷ [] }) []; need = need.Answer behind.Anything }
+
+stands_before : answered table (answer.Suffix (a ∷ [])) front.EndOfText (left 1 (Symbol 2 ∷ []) (last ∷ []))
+    ≡ Ok (step.More, record (left 1 (a ∷ a ∷ Symbol 2 ∷ []) []) { nesting = 0 })
+unfolding answered
+stands_before = refl

@@ -15,6 +15,7 @@ use Rattle.mp_values.specs.declared.macros.Level.{Level}
 use Rattle.mp_values.specs.declared.macros.Level.TheVariants as level
 use Rattle.mp_values.specs.declared.macros.Macro.{Macro}
 use Rattle.mp_values.specs.declared.macros.ParamKind.{ParamKind}
+use Rattle.mp_values.specs.declared.macros.ParamKind.TheVariants as kind
 use Rattle.mp_values.specs.declared.meaning.Delimiters.{Delimiters}
 use Rattle.mp_values.specs.declared.meaning.Meaning.{Meaning}
 use Rattle.mp_values.specs.declared.meaning.Meaning.TheVariants as meaning
@@ -26,23 +27,33 @@ use Rattle.mp_input.specs.Lines.{items_pending, last_after}
 use Rattle.mp_expand.specs.Expansion.{Expansion, Rule, IsRest, IsLeft, with_requests, reading, reading_by, opening, opening_by, waiting, waiting_by}
 use Rattle.mp_expand.specs.Steps.{take_first, take_from, enter, put_back, start}
 use Rattle.mp_expand.specs.Fronts.{Table, meaning_of}
-use Rattle.mp_expand.specs.Calls.{are_pair, argument_next, parameter_next, with_request, needing, rest_by, group_by, call, ask, argument, with_argument, closed}
-use Rattle.mp_expand.specs.Advance.{with_item, right_in_text, left_by, right_by, symbol_in_text, item_in_text, taken_in_text, opened, reached, reached_by, call_by, symbol_expanded, item_expanded, expanded, taken_by, advance, closed_before, behind_more, closed_last, behind_last, behind_by, items_of, answered, answered_by}
-use Rattle.mp_expand.specs.Holds.{HoldsPending, HoldsFirst, HoldsPair, HoldsNeed, HoldsRequest, Holds, HoldsMeaning, HoldsTable, HoldsStep, HoldsAfter}
+use Rattle.mp_expand.specs.Calls.{are_pair, argument_next, parameter_next, with_request, opens, ask, ask_last, argument, with_argument, whole, go_on, go_on_by, call}
+use Rattle.mp_expand.specs.Texts.{mark_of, with_item, text_ends, symbol_in_text, item_in_text, taken_in_text}
+use Rattle.mp_expand.specs.Advance.{opened, reached, reached_by, macro_by, symbol_expanded, item_expanded, expanded, taken_by, advance, comma_by, unclosed, right_by, delimited, of_by, behind, items_of, answered, answered_by}
+use Rattle.mp_expand.specs.Holds.{HoldsPending, HoldsFirst, HoldsPair, HoldsBehind, HoldsUntil, HoldsNeed, HoldsCall, HoldsRequest, Holds, HoldsMeaning, HoldsTable, HoldsStep, HoldsAfter}
 use Rattle.mp_expand.specs.Laws.{InventsNothingOf}
 use Rattle.mp_expand.specs.declared.front.Front.{Front}
 use Rattle.mp_expand.specs.declared.front.Front.TheVariants as front
 use Rattle.mp_expand.specs.declared.limits.TheConstants.{NESTING_LIMIT}
+use Rattle.mp_expand.specs.declared.request.Behind.{Behind}
+use Rattle.mp_expand.specs.declared.request.Behind.TheVariants as behind_it
+use Rattle.mp_expand.specs.declared.request.Call.{Call}
 use Rattle.mp_expand.specs.declared.request.Delimited.{Delimited}
-use Rattle.mp_expand.specs.declared.request.Delimited.TheVariants as delimited
+use Rattle.mp_expand.specs.declared.request.Delimited.TheVariants as between
 use Rattle.mp_expand.specs.declared.request.Need.{Need}
 use Rattle.mp_expand.specs.declared.request.Need.TheVariants as need
 use Rattle.mp_expand.specs.declared.request.Request.{Request}
+use Rattle.mp_expand.specs.declared.request.Until.{Until}
+use Rattle.mp_expand.specs.declared.request.Until.TheVariants as until
 use Rattle.mp_expand.specs.declared.step.Answer.{Answer}
+use Rattle.mp_expand.specs.declared.step.Operand.{Operand}
+use Rattle.mp_expand.specs.declared.step.Operand.TheVariants as operand
 use Rattle.mp_expand.specs.declared.step.Step.{Step}
 use Rattle.mp_expand.specs.declared.step.Step.TheVariants as step
 use Rattle.mp_expand.specs.declared.step.Want.{Want}
 use Rattle.mp_expand.specs.declared.step.Want.TheVariants as want
+use Rattle.mp_expand.specs.declared.texts.Mark.{Mark}
+use Rattle.mp_expand.specs.declared.texts.Mark.TheVariants as mark
 
 module _ (P : Item → Type 0) (N : ℕ → Type 0) where
   abbrev Gives : OutcomeBy Cause Expansion Step → Type 0
@@ -78,28 +89,16 @@ module _ (P : Item → Type 0) (N : ℕ → Type 0) where
 
   -- CALLS
 
-  with_request_holds : (r : Request) (s : Expansion) → HoldsRequest P N r → Holds P N s → Holds P N (with_request r s)
-  with_request_holds r s hr hs = record { text = hs.text; requests = All-cons (HoldsRequest P N) r s.requests hr hs.requests }
+  with_request_holds : (c : Call) (n : Need) (s : Expansion) → HoldsCall P N c → HoldsNeed P N n → Holds P N s → Holds P N (with_request c n s)
+  with_request_holds c n s hc hn hs =
+      record { text = hs.text; requests = All-cons (HoldsRequest P N) (record { call = c; need = n }) s.requests (record { call = hc; need = hn }) hs.requests }
 
-  needing_holds : (n : Need) (r : Request) → HoldsNeed P N n → HoldsRequest P N r → HoldsRequest P N (needing n r)
-  needing_holds n r hn hr = record { body = hr.body; got = hr.got; text = hr.text; need = hn }
+  with_argument_holds : (items : List Item) (c : Call) → All P items → HoldsCall P N c → HoldsCall P N (with_argument items c)
+  with_argument_holds items c hi hc = record { body = hc.body; got = All-push (All P) c.got items hc.got hi; text = All-nil P }
 
-  with_argument_holds : (items : List Item) (r : Request) → All P items → HoldsRequest P N r → HoldsRequest P N (with_argument items r)
-  with_argument_holds items r hi hr = record { body = hr.body; got = All-push (All P) r.got items hr.got hi; text = All-nil P; need = hr.need }
-
-  rest_holds : (r : Request) (k : Option ParamKind) (s : Expansion) → HoldsRequest P N r → Holds P N s → Does (rest_by r k s)
-  rest_holds r None s hr hs =
-      (tt, record { text = in_front (substitute r.called.body r.got) s.text (substitute_holds r.called.body r.got hr.body hr.got) hs.text; requests = hs.requests })
-  rest_holds r (Some k) s hr hs = hs
-
-  group_holds : (r : Request) (k : Option Delimited) (s : Expansion) → HoldsRequest P N r → Holds P N s → Does (group_by r k s)
-  group_holds r (Some k) s hr hs = (tt, with_request_holds (needing (need.Opening k) r) s (needing_holds (need.Opening k) r tt hr) hs)
-  group_holds r None s hr hs = rest_holds r (parameter_next r) s hr hs
-
-  call_holds : (m : Macro) (got : List (List Item)) (s : Expansion) → All P m.body → All (All P) got → Holds P N s → Does (call m got s)
-  call_holds m got s hm hg hs =
-      let r : Request = record { called = m; got = got; next = 0; need = need.Opening delimited.Expr; text = [] } in
-      group_holds r (argument_next r) s (record { body = hm; got = hg; text = All-nil P; need = tt }) hs
+  whole_holds : (c : Call) (s : Expansion) → HoldsCall P N c → Holds P N s → Gives (whole c s)
+  whole_holds c s hc hs =
+      (tt, record { text = in_front (substitute c.called.body c.got) s.text (substitute_holds c.called.body c.got hc.body hc.got) hs.text; requests = hs.requests })
 
   entered_by : (b : Bool) (s : Expansion) → Holds P N s
       → Does (if b then Ok (tt, record s { nesting = s.nesting + 1 }) else Err (Refused (error.Limit cap.Nesting NESTING_LIMIT), s))
@@ -110,90 +109,107 @@ module _ (P : Item → Type 0) (N : ℕ → Type 0) where
   unfolding enter
   enter_holds s hs = entered_by (nat_lt s.nesting NESTING_LIMIT) s hs
 
-  ask_holds : (r : Request) (pair : Delimiters) (w : Want) (s : Expansion) → HoldsPair P N pair → HoldsRequest P N r → Holds P N s → Gives (ask r pair w s)
-  ask_holds r pair w s hp hr hs =
-      one_after_another (λ entered. ⊤) (HoldsStep P N) (enter s) _ (enter_holds s hs) (λ entered t q ht.
-      (tt, with_request_holds (needing (need.Answer pair) r) t (needing_holds (need.Answer pair) r hp hr) ht))
+  ask_holds : (c : Call) (b : Behind) (w : Want) (s : Expansion) → HoldsBehind P N b → HoldsCall P N c → Holds P N s → Gives (ask c b w s)
+  ask_holds c b w s hb hc hs =
+      one_after_another (λ entered. ⊤) (HoldsStep P N) (enter s) _ (enter_holds s hs) (λ entered t q ht. (tt, with_request_holds c (need.Answer b) t hc hb ht))
 
-  next_argument_holds : (r : Request) (pair : Delimiters) (k : Delimited) (s : Expansion) → HoldsPair P N pair → HoldsRequest P N r → Holds P N s
-      → Gives (argument r pair k s)
-  next_argument_holds r pair delimited.Expr s hp hr hs = ask_holds r pair want.Expression s hp hr hs
-  next_argument_holds r pair delimited.Suffix s hp hr hs = ask_holds r pair want.Suffix s hp hr hs
-  next_argument_holds r pair delimited.Text s hp hr hs =
-      (tt, with_request_holds (needing (need.Text pair 0) r) s (needing_holds (need.Text pair 0) r hp hr) hs)
+  last_holds : (c : Call) (o : Operand) (s : Expansion) → HoldsCall P N c → Holds P N s → Gives (ask_last c o s)
+  last_holds c o s hc hs = ask_holds c behind_it.Anything (want.Last o) s tt hc hs
 
-  closed_holds : (r : Request) (s : Expansion) → HoldsRequest P N r → Holds P N s → Gives (closed r s)
-  closed_holds r s hr hs = one_after_another (λ on. ⊤) (HoldsStep P N) (group_by r (argument_next r) s) _ (group_holds r (argument_next r) s hr hs) (λ on t q ht. (tt, ht))
+  open_holds : (c : Call) (k : Delimited) (s : Expansion) → HoldsCall P N c → Holds P N s → Gives (opens c k s)
+  open_holds c k s hc hs = (tt, with_request_holds c (need.Opening k) s hc tt hs)
+
+  next_argument_holds : (c : Call) (pair : Delimiters) (k : Delimited) (s : Expansion) → HoldsPair P N pair → HoldsCall P N c → Holds P N s
+      → Gives (argument c pair k s)
+  next_argument_holds c pair between.Expr s hp hc hs = ask_holds c (behind_it.Delimiter pair) (want.Followed operand.Expression) s hp hc hs
+  next_argument_holds c pair between.Suffix s hp hc hs = ask_holds c (behind_it.Delimiter pair) (want.Followed operand.Suffix) s hp hc hs
+  next_argument_holds c pair between.Text s hp hc hs = (tt, with_request_holds c (need.Text (until.Delimiter pair) 0) s hc hp hs)
+
+  go_on_by_holds : (c : Call) (k : Option ParamKind) (s : Expansion) → HoldsCall P N c → Holds P N s → Gives (go_on_by c k s)
+  go_on_by_holds c None s hc hs = whole_holds c s hc hs
+  go_on_by_holds c (Some kind.Expr) s hc hs = open_holds c between.Expr s hc hs
+  go_on_by_holds c (Some kind.Suffix) s hc hs = open_holds c between.Suffix s hc hs
+  go_on_by_holds c (Some kind.Text) s hc hs = open_holds c between.Text s hc hs
+  go_on_by_holds c (Some kind.Primary) s hc hs = last_holds c operand.Primary s hc hs
+  go_on_by_holds c (Some kind.Secondary) s hc hs = last_holds c operand.Secondary s hc hs
+  go_on_by_holds c (Some kind.Tertiary) s hc hs = last_holds c operand.Tertiary s hc hs
+  go_on_by_holds c (Some kind.BareExpr) s hc hs = last_holds c operand.Expression s hc hs
+  go_on_by_holds c (Some kind.ExprOf) s hc hs = ask_holds c behind_it.Of (want.Followed operand.Expression) s tt hc hs
+  go_on_by_holds c (Some kind.BareSuffix) s hc hs = last_holds c operand.Suffix s hc hs
+  go_on_by_holds c (Some kind.BareText) s hc hs = (tt, with_request_holds c (need.Text until.Statement 0) s hc tt hs)
+
+  go_on_holds : (c : Call) (s : Expansion) → HoldsCall P N c → Holds P N s → Gives (go_on c s)
+  go_on_holds c s hc hs = go_on_by_holds c (parameter_next c) s hc hs
+
+  call_holds : (m : Macro) (got : List (List Item)) (s : Expansion) → All P m.body → All (All P) got → Holds P N s → Gives (call m got s)
+  call_holds m got s hm hg hs = go_on_holds (record { called = m; got = got; next = 0; text = [] }) s (record { body = hm; got = hg; text = All-nil P }) hs
+
+  put_back_holds : (x : Item) (s : Expansion) → P x → Holds P N s → Holds P N (put_back x s)
+  put_back_holds x s hx hs = record { text = All-cons (HoldsPending P N) (pending.Item x) s.text hx hs.text; requests = hs.requests }
 
   -- A TEXT ARGUMENT
 
-  with_item_holds : (r : Request) (pair : Delimiters) (x : Item) (depth : ℕ) (s : Expansion) → HoldsPair P N pair → P x → HoldsRequest P N r → Holds P N s
-      → Gives (with_item r pair x depth s)
-  with_item_holds r pair x depth s hp hx hr hs =
-      let more : Request = record r { text = r.text ++ x ∷ [] } in
-      let hm : HoldsRequest P N more = record { body = hr.body; got = hr.got; text = All-push P r.text x hr.text hx; need = hr.need } in
-      (tt, with_request_holds (needing (need.Text pair depth) more) s (needing_holds (need.Text pair depth) more hp hm) hs)
+  with_item_holds : (c : Call) (u : Until) (x : Item) (depth : ℕ) (s : Expansion) → HoldsUntil P N u → P x → HoldsCall P N c → Holds P N s
+      → Gives (with_item c u x depth s)
+  with_item_holds c u x depth s hu hx hc hs =
+      let more : Call = record c { text = c.text ++ x ∷ [] } in
+      (tt, with_request_holds more (need.Text u depth) s (record { body = hc.body; got = hc.got; text = All-push P c.text x hc.text hx }) hu hs)
 
-  right_holds : (r : Request) (pair : Delimiters) (x : Item) (depth : ℕ) (s : Expansion) → HoldsPair P N pair → P x → HoldsRequest P N r → Holds P N s
-      → Gives (right_in_text r pair x depth s)
-  right_holds r pair x zero s hp hx hr hs = closed_holds (with_argument r.text r) s (with_argument_holds r.text r hr.text hr) hs
-  right_holds r pair x (suc depth) s hp hx hr hs = with_item_holds r pair x depth s hp hx hr hs
+  text_ends_holds : (c : Call) (u : Until) (symbol : ℕ) (s : Expansion) → P (item.Symbol symbol) → HoldsCall P N c → Holds P N s → Gives (text_ends c u symbol s)
+  text_ends_holds c (until.Delimiter pair) symbol s hx hc hs = go_on_holds (with_argument c.text c) s (with_argument_holds c.text c hc.text hc) hs
+  text_ends_holds c until.Statement symbol s hx hc hs =
+      whole_holds (with_argument c.text c) (put_back (item.Symbol symbol) s) (with_argument_holds c.text c hc.text hc) (put_back_holds (item.Symbol symbol) s hx hs)
 
-  left_by_holds : (b : Bool) (r : Request) (pair : Delimiters) (x : Item) (depth : ℕ) (s : Expansion) → HoldsPair P N pair → P x → HoldsRequest P N r → Holds P N s
-      → Gives (left_by b r pair x depth s)
-  left_by_holds true r pair x depth s hp hx hr hs = with_item_holds r pair x (suc depth) s hp hx hr hs
-  left_by_holds false r pair x depth s hp hx hr hs = with_item_holds r pair x depth s hp hx hr hs
+  symbol_in_text_holds : (c : Call) (u : Until) (depth symbol : ℕ) (m : Mark) (s : Expansion) → HoldsUntil P N u → P (item.Symbol symbol) → HoldsCall P N c → Holds P N s
+      → Gives (symbol_in_text c u depth symbol m s)
+  symbol_in_text_holds c u depth symbol mark.Begins s hu hx hc hs = with_item_holds c u (item.Symbol symbol) (suc depth) s hu hx hc hs
+  symbol_in_text_holds c u zero symbol mark.Ends s hu hx hc hs = text_ends_holds c u symbol s hx hc hs
+  symbol_in_text_holds c u (suc depth) symbol mark.Ends s hu hx hc hs = with_item_holds c u (item.Symbol symbol) depth s hu hx hc hs
+  symbol_in_text_holds c u zero symbol mark.Separates s hu hx hc hs = text_ends_holds c u symbol s hx hc hs
+  symbol_in_text_holds c u (suc depth) symbol mark.Separates s hu hx hc hs = with_item_holds c u (item.Symbol symbol) (suc depth) s hu hx hc hs
+  symbol_in_text_holds c u depth symbol mark.Stands s hu hx hc hs = with_item_holds c u (item.Symbol symbol) depth s hu hx hc hs
 
-  right_by_holds : (b : Bool) (r : Request) (pair : Delimiters) (x : Item) (depth : ℕ) (s : Expansion) → HoldsPair P N pair → P x → HoldsRequest P N r → Holds P N s
-      → Gives (right_by b r pair x depth s)
-  right_by_holds true r pair x depth s hp hx hr hs = right_holds r pair x depth s hp hx hr hs
-  right_by_holds false r pair x depth s hp hx hr hs = with_item_holds r pair x depth s hp hx hr hs
+  item_in_text_holds : (table : Table) (c : Call) (u : Until) (depth : ℕ) (x : Item) (s : Expansion) → HoldsUntil P N u → P x → HoldsCall P N c → Holds P N s
+      → Gives (item_in_text table c u depth x s)
+  item_in_text_holds table c u depth (item.LineEnd place) s hu hx hc hs = (tt, with_request_holds c (need.Text u depth) s hc hu hs)
+  item_in_text_holds table c u depth item.FileEnd s hu hx hc hs = hs
+  item_in_text_holds table c u depth item.EndOfText s hu hx hc hs = hs
+  item_in_text_holds table c u depth (item.Bad cause) s hu hx hc hs = hs
+  item_in_text_holds table c u depth (item.Symbol symbol) s hu hx hc hs = symbol_in_text_holds c u depth symbol (mark_of u (meaning_of table symbol)) s hu hx hc hs
+  item_in_text_holds table c u depth x s hu hx hc hs = with_item_holds c u x depth s hu hx hc hs
 
-  symbol_in_text_holds : (r : Request) (pair : Delimiters) (depth symbol : ℕ) (m : Meaning) (s : Expansion) → HoldsPair P N pair → P (item.Symbol symbol)
-      → HoldsRequest P N r → Holds P N s → Gives (symbol_in_text r pair depth symbol m s)
-  symbol_in_text_holds r pair depth symbol (meaning.Left other) s hp hx hr hs = left_by_holds (are_pair pair other) r pair (item.Symbol symbol) depth s hp hx hr hs
-  symbol_in_text_holds r pair depth symbol (meaning.Right other) s hp hx hr hs = right_by_holds (are_pair pair other) r pair (item.Symbol symbol) depth s hp hx hr hs
-  symbol_in_text_holds r pair depth symbol m s hp hx hr hs = with_item_holds r pair (item.Symbol symbol) depth s hp hx hr hs
-
-  item_in_text_holds : (table : Table) (r : Request) (pair : Delimiters) (depth : ℕ) (x : Item) (s : Expansion) → HoldsPair P N pair → P x → HoldsRequest P N r → Holds P N s
-      → Gives (item_in_text table r pair depth x s)
-  item_in_text_holds table r pair depth (item.LineEnd place) s hp hx hr hs = (tt, with_request_holds r s hr hs)
-  item_in_text_holds table r pair depth item.FileEnd s hp hx hr hs = hs
-  item_in_text_holds table r pair depth item.EndOfText s hp hx hr hs = hs
-  item_in_text_holds table r pair depth (item.Bad cause) s hp hx hr hs = hs
-  item_in_text_holds table r pair depth (item.Symbol symbol) s hp hx hr hs = symbol_in_text_holds r pair depth symbol (meaning_of table symbol) s hp hx hr hs
-  item_in_text_holds table r pair depth x s hp hx hr hs = with_item_holds r pair x depth s hp hx hr hs
-
-  taken_in_text_holds : (table : Table) (r : Request) (pair : Delimiters) (depth : ℕ) (x : Option Pending) (s : Expansion) → HoldsPair P N pair → HoldsFirst P N x
-      → HoldsRequest P N r → Holds P N s → Gives (taken_in_text table r pair depth x s)
-  taken_in_text_holds table r pair depth (Some (pending.Item x)) s hp hx hr hs = item_in_text_holds table r pair depth x s hp hx hr hs
-  taken_in_text_holds table r pair depth (Some (pending.Turn turn)) s hp hx hr hs = (tt, with_request_holds r s hr hs)
-  taken_in_text_holds table r pair depth None s hp hx hr hs = hs
+  taken_in_text_holds : (table : Table) (c : Call) (u : Until) (depth : ℕ) (x : Option Pending) (s : Expansion) → HoldsUntil P N u → HoldsFirst P N x
+      → HoldsCall P N c → Holds P N s → Gives (taken_in_text table c u depth x s)
+  taken_in_text_holds table c u depth (Some (pending.Item x)) s hu hx hc hs = item_in_text_holds table c u depth x s hu hx hc hs
+  taken_in_text_holds table c u depth (Some (pending.Turn turn)) s hu hx hc hs = (tt, with_request_holds c (need.Text u depth) s hc hu hs)
+  taken_in_text_holds table c u depth None s hu hx hc hs = hs
 
   -- WHAT NO CALL READS
 
-  opened_holds : (r : Request) (k : Delimited) (x : Step) (s : Expansion) → HoldsStep P N x → HoldsRequest P N r → Holds P N s → Gives (opened r k x s)
-  opened_holds r k (step.Front (front.Left symbol pair)) s hx hr hs = next_argument_holds r pair k s hx.1 hr hs
-  opened_holds r k x s hx hr hs = hs
+  opened_holds : (c : Call) (k : Delimited) (x : Step) (s : Expansion) → HoldsStep P N x → HoldsCall P N c → Holds P N s → Gives (opened c k x s)
+  opened_holds c k (step.Front (front.Left symbol pair)) s hx hc hs = next_argument_holds c pair k s hx.1 hc hs
+  opened_holds c k x s hx hc hs = hs
 
   others_hold : (rs : List Request) (s : Expansion) → All (HoldsRequest P N) rs → Holds P N s → Holds P N (with_requests rs s)
   others_hold rs s h hs = record { text = hs.text; requests = h }
 
-  opening_holds : (x : Step) (r : Request) (rs : List Request) (n : Need) (s : Expansion) → HoldsStep P N x → HoldsRequest P N r → All (HoldsRequest P N) rs → Holds P N s
-      → Gives (reached_by x (opening_by r rs n) s)
-  opening_holds x r rs (need.Opening k) s hx hr h hs = opened_holds r k x (with_requests rs s) hx hr (others_hold rs s h hs)
-  opening_holds x r rs n s hx hr h hs = (hx, hs)
+  opening_holds : (x : Step) (c : Call) (rs : List Request) (n : Need) (s : Expansion) → HoldsStep P N x → HoldsCall P N c → All (HoldsRequest P N) rs → Holds P N s
+      → Gives (reached_by x (opening_by c rs n) s)
+  opening_holds x c rs (need.Opening k) s hx hc h hs = opened_holds c k x (with_requests rs s) hx hc (others_hold rs s h hs)
+  opening_holds x c rs n s hx hc h hs = (hx, hs)
 
   reached_by_holds : (x : Step) (rs : List Request) (s : Expansion) → HoldsStep P N x → All (HoldsRequest P N) rs → Holds P N s → Gives (reached_by x (opening rs) s)
   reached_by_holds x [] s hx h hs = (hx, hs)
-  reached_by_holds x (r ∷ rs) s hx h hs = opening_holds x r rs r.need s hx (All-head (HoldsRequest P N) r rs h) (All-tail (HoldsRequest P N) r rs h) hs
+  reached_by_holds x (r ∷ rs) s hx h hs =
+      let hr : HoldsRequest P N r = All-head (HoldsRequest P N) r rs h in
+      opening_holds x r.call rs r.need s hx hr.call (All-tail (HoldsRequest P N) r rs h) hs
 
   reached_holds : (x : Step) (s : Expansion) → HoldsStep P N x → Holds P N s → Gives (reached x s)
   reached_holds x s hx hs = reached_by_holds x s.requests s hx hs.requests hs
 
-  call_by_holds : (l : Level) (m : Macro) (s : Expansion) → All P m.body → Holds P N s → Gives (call_by l m s)
-  call_by_holds level.Plain m s hm hs = one_after_another (λ called. ⊤) (HoldsStep P N) (call m [] s) _ (call_holds m [] s hm (All-nil (All P)) hs) (λ called t q ht. (tt, ht))
-  call_by_holds other m s hm hs = hs
+  macro_holds : (symbol : ℕ) (m : Macro) (l : Level) (s : Expansion) → P (item.Symbol symbol) → All P m.body → Holds P N s → Gives (macro_by symbol m l s)
+  macro_holds symbol m level.Plain s hx hm hs = call_holds m [] s hm (All-nil (All P)) hs
+  macro_holds symbol m other s hx hm hs = reached_holds (step.Front (front.Operator symbol)) s hx hs
 
   word_holds : (symbol : ℕ) (w : Word) (s : Expansion) → P (item.Symbol symbol) → Holds P N s → Gives (symbol_expanded symbol (meaning.Word w) s)
   word_holds symbol word.Backslash s hx hs = (tt, hs)
@@ -207,7 +223,7 @@ module _ (P : Item → Type 0) (N : ℕ → Type 0) where
   symbol_holds symbol (meaning.Internal k) s hx hm hs = reached_holds (step.Front (front.Internal symbol k)) s (hx, hm) hs
   symbol_holds symbol (meaning.Left pair) s hx hm hs = reached_holds (step.Front (front.Left symbol pair)) s (hx, hm) hs
   symbol_holds symbol (meaning.Right pair) s hx hm hs = reached_holds (step.Front (front.Right symbol pair)) s (hx, hm) hs
-  symbol_holds symbol (meaning.Macro m) s hx hm hs = call_by_holds m.level m s hm hs
+  symbol_holds symbol (meaning.Macro m) s hx hm hs = macro_holds symbol m m.level s hx hm hs
 
   meaning_holds : (table : Table) (symbol : ℕ) → HoldsTable P N table → HoldsMeaning P N (meaning_of table symbol)
   meaning_holds [] symbol h = tt
@@ -232,17 +248,17 @@ module _ (P : Item → Type 0) (N : ℕ → Type 0) where
 
   -- THE NEXT ITEM
 
-  reading_holds : (table : Table) (x : Option Pending) (r : Request) (rs : List Request) (n : Need) (s : Expansion) → HoldsTable P N table → HoldsFirst P N x → HoldsNeed P N n
-      → HoldsRequest P N r → All (HoldsRequest P N) rs → Holds P N s → Gives (taken_by table x (reading_by r rs n) s)
-  reading_holds table x r rs (need.Text pair depth) s h hx hn hr hrs hs = taken_in_text_holds table r pair depth x (with_requests rs s) hn hx hr (others_hold rs s hrs hs)
-  reading_holds table x r rs n s h hx hn hr hrs hs = expanded_holds table x s h hx hs
+  reading_holds : (table : Table) (x : Option Pending) (c : Call) (rs : List Request) (n : Need) (s : Expansion) → HoldsTable P N table → HoldsFirst P N x → HoldsNeed P N n
+      → HoldsCall P N c → All (HoldsRequest P N) rs → Holds P N s → Gives (taken_by table x (reading_by c rs n) s)
+  reading_holds table x c rs (need.Text u depth) s h hx hn hc hrs hs = taken_in_text_holds table c u depth x (with_requests rs s) hn hx hc (others_hold rs s hrs hs)
+  reading_holds table x c rs n s h hx hn hc hrs hs = expanded_holds table x s h hx hs
 
   taken_holds : (table : Table) (x : Option Pending) (rs : List Request) (s : Expansion) → HoldsTable P N table → HoldsFirst P N x → All (HoldsRequest P N) rs → Holds P N s
       → Gives (taken_by table x (reading rs) s)
   taken_holds table x [] s h hx hrs hs = expanded_holds table x s h hx hs
   taken_holds table x (r ∷ rs) s h hx hrs hs =
       let hr : HoldsRequest P N r = All-head (HoldsRequest P N) r rs hrs in
-      reading_holds table x r rs r.need s h hx hr.need hr (All-tail (HoldsRequest P N) r rs hrs) hs
+      reading_holds table x r.call rs r.need s h hx hr.need hr.call (All-tail (HoldsRequest P N) r rs hrs) hs
 
   first_by : (b : Bool) (x : Pending) (text : List Pending) (s : Expansion) → All (HoldsPending P N) (x ∷ text) → Holds P N s
       → HoldsAfter P N (HoldsFirst P N) (if b then Ok (Some x, record s { text = text; last = last_after x s.last; steps = s.steps + 1 }) else Err (OutOfSteps, s))
@@ -264,63 +280,59 @@ module _ (P : Item → Type 0) (N : ℕ → Type 0) where
 
   -- AN ANSWER
 
-  closed_before_holds : (b : Bool) (r : Request) (s : Expansion) → HoldsRequest P N r → Holds P N s → Gives (closed_before b r s)
-  closed_before_holds true r s hr hs = closed_holds r s hr hs
-  closed_before_holds false r s hr hs = hs
+  comma_holds : (c : Call) (pair : Delimiters) (k : Option Delimited) (s : Expansion) → HoldsPair P N pair → HoldsCall P N c → Holds P N s → Gives (comma_by c pair k s)
+  comma_holds c pair (Some k) s hp hc hs = next_argument_holds c pair k s hp hc hs
+  comma_holds c pair None s hp hc hs = hs
 
-  word_more_holds : (r : Request) (pair : Delimiters) (k : Delimited) (symbol : ℕ) (w : Word) (s : Expansion) → HoldsPair P N pair → HoldsRequest P N r → Holds P N s
-      → Gives (behind_more r pair k (front.Word symbol w) s)
-  word_more_holds r pair k symbol word.Comma s hp hr hs = next_argument_holds r pair k s hp hr hs
-  word_more_holds r pair k symbol w s hp hr hs = hs
+  unclosed_holds : (table : Table) (pair : Delimiters) (x : Front) (k : Option Delimited) (s : Expansion) → Holds P N s → Gives (unclosed table pair x k s)
+  unclosed_holds table pair x (Some k) s hs = hs
+  unclosed_holds table pair x None s hs = hs
 
-  behind_more_holds : (r : Request) (pair : Delimiters) (k : Delimited) (x : Front) (s : Expansion) → HoldsPair P N pair → HoldsRequest P N r → Holds P N s
-      → Gives (behind_more r pair k x s)
-  behind_more_holds r pair k (front.Word symbol w) s hp hr hs = word_more_holds r pair k symbol w s hp hr hs
-  behind_more_holds r pair k (front.Right symbol other) s hp hr hs = closed_before_holds (are_pair pair other) r s hr hs
-  behind_more_holds r pair k x s hp hr hs = hs
+  right_holds : (b : Bool) (table : Table) (c : Call) (pair : Delimiters) (x : Front) (s : Expansion) → HoldsCall P N c → Holds P N s → Gives (right_by b table c pair x s)
+  right_holds true table c pair x s hc hs = go_on_holds c s hc hs
+  right_holds false table c pair x s hc hs = unclosed_holds table pair x (argument_next c) s hs
 
-  closed_last_holds : (b : Bool) (table : Table) (r : Request) (pair : Delimiters) (x : Front) (s : Expansion) → HoldsRequest P N r → Holds P N s
-      → Gives (closed_last b table r pair x s)
-  closed_last_holds true table r pair x s hr hs = closed_holds r s hr hs
-  closed_last_holds false table r pair x s hr hs = hs
+  delimited_word_holds : (table : Table) (c : Call) (pair : Delimiters) (symbol : ℕ) (w : Word) (s : Expansion) → HoldsPair P N pair → HoldsCall P N c → Holds P N s
+      → Gives (delimited table c pair (front.Word symbol w) s)
+  delimited_word_holds table c pair symbol word.Comma s hp hc hs = comma_holds c pair (argument_next c) s hp hc hs
+  delimited_word_holds table c pair symbol w s hp hc hs = unclosed_holds table pair (front.Word symbol w) (argument_next c) s hs
 
-  word_last_holds : (table : Table) (r : Request) (pair : Delimiters) (symbol : ℕ) (w : Word) (s : Expansion) → Holds P N s
-      → Gives (behind_last table r pair (front.Word symbol w) s)
-  word_last_holds table r pair symbol word.Comma s hs = hs
-  word_last_holds table r pair symbol w s hs = hs
+  delimited_holds : (table : Table) (c : Call) (pair : Delimiters) (x : Front) (s : Expansion) → HoldsPair P N pair → HoldsCall P N c → Holds P N s
+      → Gives (delimited table c pair x s)
+  delimited_holds table c pair (front.Word symbol w) s hp hc hs = delimited_word_holds table c pair symbol w s hp hc hs
+  delimited_holds table c pair (front.Right symbol other) s hp hc hs = right_holds (are_pair pair other) table c pair (front.Right symbol other) s hc hs
+  delimited_holds table c pair x s hp hc hs = unclosed_holds table pair x (argument_next c) s hs
 
-  behind_last_holds : (table : Table) (r : Request) (pair : Delimiters) (x : Front) (s : Expansion) → HoldsRequest P N r → Holds P N s
-      → Gives (behind_last table r pair x s)
-  behind_last_holds table r pair (front.Word symbol w) s hr hs = word_last_holds table r pair symbol w s hs
-  behind_last_holds table r pair (front.Right symbol other) s hr hs = closed_last_holds (are_pair pair other) table r pair (front.Right symbol other) s hr hs
-  behind_last_holds table r pair x s hr hs = hs
+  of_word_holds : (table : Table) (c : Call) (symbol : ℕ) (w : Word) (s : Expansion) → HoldsCall P N c → Holds P N s → Gives (of_by table c (front.Word symbol w) s)
+  of_word_holds table c symbol word.Of s hc hs = last_holds c operand.Primary s hc hs
+  of_word_holds table c symbol w s hc hs = hs
 
-  behind_holds : (table : Table) (r : Request) (pair : Delimiters) (x : Front) (k : Option Delimited) (s : Expansion) → HoldsPair P N pair → HoldsRequest P N r → Holds P N s
-      → Gives (behind_by table r pair x k s)
-  behind_holds table r pair x (Some k) s hp hr hs = behind_more_holds r pair k x s hp hr hs
-  behind_holds table r pair x None s hp hr hs = behind_last_holds table r pair x s hr hs
+  of_holds : (table : Table) (c : Call) (x : Front) (s : Expansion) → HoldsCall P N c → Holds P N s → Gives (of_by table c x s)
+  of_holds table c (front.Word symbol w) s hc hs = of_word_holds table c symbol w s hc hs
+  of_holds table c x s hc hs = hs
 
-  waiting_holds : (table : Table) (items : List Item) (x : Front) (r : Request) (rs : List Request) (n : Need) (s : Expansion) → All P items → HoldsNeed P N n
-      → HoldsRequest P N r → All (HoldsRequest P N) rs → Holds P N s → Gives (answered_by table items x (waiting_by r rs n) s)
-  waiting_holds table items x r rs (need.Answer pair) s hi hn hr hrs hs =
+  behind_holds : (table : Table) (c : Call) (b : Behind) (x : Front) (s : Expansion) → HoldsBehind P N b → HoldsCall P N c → Holds P N s → Gives (behind table c b x s)
+  behind_holds table c (behind_it.Delimiter pair) x s hb hc hs = delimited_holds table c pair x s hb hc hs
+  behind_holds table c behind_it.Of x s hb hc hs = of_holds table c x s hc hs
+  behind_holds table c behind_it.Anything x s hb hc hs = whole_holds c s hc hs
+
+  waiting_holds : (table : Table) (items : List Item) (x : Front) (c : Call) (rs : List Request) (n : Need) (s : Expansion) → All P items → HoldsNeed P N n
+      → HoldsCall P N c → All (HoldsRequest P N) rs → Holds P N s → Gives (answered_by table items x (waiting_by c rs n) s)
+  waiting_holds table items x c rs (need.Answer b) s hi hn hc hrs hs =
       let t : Expansion = record s { nesting = s.nesting - 1; requests = rs } in
-      behind_holds table (with_argument items r) pair x (argument_next (with_argument items r)) t hn (with_argument_holds items r hi hr)
-      (record { text = hs.text; requests = hrs })
-  waiting_holds table items x r rs n s hi hn hr hrs hs = (tt, hs)
+      behind_holds table (with_argument items c) b x t hn (with_argument_holds items c hi hc) (record { text = hs.text; requests = hrs })
+  waiting_holds table items x c rs n s hi hn hc hrs hs = (tt, hs)
 
   answered_by_holds : (table : Table) (items : List Item) (x : Front) (rs : List Request) (s : Expansion) → All P items → All (HoldsRequest P N) rs → Holds P N s
       → Gives (answered_by table items x (waiting rs) s)
   answered_by_holds table items x [] s hi hrs hs = (tt, hs)
   answered_by_holds table items x (r ∷ rs) s hi hrs hs =
       let hr : HoldsRequest P N r = All-head (HoldsRequest P N) r rs hrs in
-      waiting_holds table items x r rs r.need s hi hr.need hr (All-tail (HoldsRequest P N) r rs hrs) hs
+      waiting_holds table items x r.call rs r.need s hi hr.need hr.call (All-tail (HoldsRequest P N) r rs hrs) hs
 
   answered_holds : (table : Table) (a : Answer) (x : Front) (s : Expansion) → All P (items_of a) → Holds P N s → Gives (answered table a x s)
   unfolding answered
   answered_holds table a x s hi hs = answered_by_holds table (items_of a) x s.requests s hi hs.requests hs
-
-  put_back_holds : (x : Item) (s : Expansion) → P x → Holds P N s → Holds P N (put_back x s)
-  put_back_holds x s hx hs = record { text = All-cons (HoldsPending P N) (pending.Item x) s.text hx hs.text; requests = hs.requests }
 
   start_holds : (file : ℕ) (tokens : List Token) (s : Expansion) → All P (file_items file tokens) → Holds P N s → Holds P N (start file tokens s)
   start_holds file tokens s h hs = record { text = in_front (file_items file tokens) s.text h hs.text; requests = hs.requests }

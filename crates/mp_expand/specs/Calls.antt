@@ -2,10 +2,8 @@
 -- After Hobby, A User's Manual for MetaPost, section 10, and Knuth, METAFONT: The Program, part 25; the refusals are this
 -- project's own.
 use Rattle.std.specs.Prelude.{◌+◌, Bool, List, [], ◌∷◌, ◌++◌, Option, Some, None, nat_eq, ◌&&◌, slice_get}
-use Rattle.mp_values.specs.Outcome.{◌>>=◌, give, halt, change}
-use Rattle.mp_values.specs.Refusals.{not_built}
+use Rattle.mp_values.specs.Outcome.{◌>>=◌, give, change}
 use Rattle.mp_values.specs.Substitution.{substitute}
-use Rattle.mp_values.specs.Words.{name_of_definition, definition_of}
 use Rattle.mp_values.specs.declared.item.Item.{Item}
 use Rattle.mp_values.specs.declared.macros.Macro.{Macro}
 use Rattle.mp_values.specs.declared.macros.ParamKind.{ParamKind}
@@ -14,11 +12,17 @@ use Rattle.mp_values.specs.declared.meaning.Delimiters.{Delimiters}
 use Rattle.mp_input.specs.Lines.{items_pending}
 use Rattle.mp_expand.specs.Expansion.{Expansion, Rule}
 use Rattle.mp_expand.specs.Steps.{enter}
+use Rattle.mp_expand.specs.declared.request.Behind.{Behind}
+use Rattle.mp_expand.specs.declared.request.Behind.TheVariants as behind
+use Rattle.mp_expand.specs.declared.request.Call.{Call}
 use Rattle.mp_expand.specs.declared.request.Delimited.{Delimited}
 use Rattle.mp_expand.specs.declared.request.Delimited.TheVariants as delimited
 use Rattle.mp_expand.specs.declared.request.Need.{Need}
 use Rattle.mp_expand.specs.declared.request.Need.TheVariants as need
-use Rattle.mp_expand.specs.declared.request.Request.{Request}
+use Rattle.mp_expand.specs.declared.request.Until.{Until}
+use Rattle.mp_expand.specs.declared.request.Until.TheVariants as until
+use Rattle.mp_expand.specs.declared.step.Operand.{Operand}
+use Rattle.mp_expand.specs.declared.step.Operand.TheVariants as operand
 use Rattle.mp_expand.specs.declared.step.Step.{Step}
 use Rattle.mp_expand.specs.declared.step.Step.TheVariants as step
 use Rattle.mp_expand.specs.declared.step.Want.{Want}
@@ -36,66 +40,78 @@ delimited_in (Some kind.Text) = Some delimited.Text
 delimited_in x = None
 
 -- the parameter whose argument is next
-abbrev pub parameter_next : Request → Option ParamKind
-parameter_next r = slice_get r.called.params r.next
+abbrev pub parameter_next : Call → Option ParamKind
+parameter_next c = slice_get c.called.params c.next
 
 -- what it takes between delimiters, where it stands between them
-abbrev pub argument_next : Request → Option Delimited
-argument_next r = delimited_in (parameter_next r)
-
--- a call stands before the others
-abbrev pub with_request : Request → Expansion → Expansion
-with_request r s = record s { requests = r ∷ s.requests }
-
-abbrev pub needing : Need → Request → Request
-needing n r = record r { need = n }
-
--- THE BODY
-
--- the body stands at the front of the text, with the arguments in place of the parameters
-abbrev pub with_body : Request → Expansion → Expansion
-with_body r s = record s { text = items_pending (substitute r.called.body r.got) ++ s.text }
-
--- a call without more arguments between delimiters; what other parameters take is not built
-abbrev pub rest_by : Request → Option ParamKind → Rule (Unit {0})
-rest_by r None = change (with_body r)
-rest_by r (Some k) = halt (not_built (name_of_definition (definition_of r.called.level)))
-
--- a call between two groups of arguments: it needs a left delimiter, or it is whole
-abbrev pub group_by : Request → Option Delimited → Rule (Unit {0})
-group_by r (Some k) = change (with_request (needing (need.Opening k) r))
-group_by r None = rest_by r (parameter_next r)
-
-abbrev pub next_group : Request → Rule (Unit {0})
-next_group r = group_by r (argument_next r)
-
--- a macro is called, with the first of the arguments that its body needs
-abbrev pub call : Macro → List (List Item) → Rule (Unit {0})
-call m got = next_group (record { called = m; got = got; next = 0; need = need.Opening delimited.Expr; text = [] })
-
--- AN ARGUMENT
-
--- a call waits for the answer to what it asks for
-abbrev pub ask : Request → Delimiters → Want → Rule Step
-ask r pair w = do
-  entered ← enter
-  waits ← change (with_request (needing (need.Answer pair) r))
-  give (step.Want w)
-
--- the argument behind a left delimiter or a comma
-abbrev pub argument : Request → Delimiters → Delimited → Rule Step
-argument r pair delimited.Expr = ask r pair want.Expression
-argument r pair delimited.Suffix = ask r pair want.Suffix
-argument r pair delimited.Text = do
-  reads ← change (with_request (needing (need.Text pair 0) r))
-  give step.More
+abbrev pub argument_next : Call → Option Delimited
+argument_next c = delimited_in (parameter_next c)
 
 -- one more argument was got
-abbrev pub with_argument : List Item → Request → Request
-with_argument items r = record r { got = r.got ++ items ∷ []; next = r.next + 1; text = [] }
+abbrev pub with_argument : List Item → Call → Call
+with_argument items c = record c { got = c.got ++ items ∷ []; next = c.next + 1; text = [] }
 
--- a group of arguments was closed
-abbrev pub closed : Request → Rule Step
-closed r = do
-  on ← next_group r
+-- a call stands before the others, and needs that
+abbrev pub with_request : Call → Need → Expansion → Expansion
+with_request c n s = record s { requests = record { call = c; need = n } ∷ s.requests }
+
+-- WHAT A CALL DOES NEXT
+
+-- the body stands at the front of the text, with the arguments in place of the parameters
+abbrev pub with_body : Call → Expansion → Expansion
+with_body c s = record s { text = items_pending (substitute c.called.body c.got) ++ s.text }
+
+abbrev pub whole : Call → Rule Step
+whole c = do
+  stands ← change (with_body c)
   give step.More
+
+-- it needs a left delimiter in front of the argument
+abbrev pub opens : Call → Delimited → Rule Step
+opens c k = do
+  needs ← change (with_request c (need.Opening k))
+  give step.More
+
+-- it waits for the answer to what it asks for
+abbrev pub ask : Call → Behind → Want → Rule Step
+ask c b w = do
+  entered ← enter
+  waits ← change (with_request c (need.Answer b))
+  give (step.Want w)
+
+-- the last argument, without delimiters: what stands behind it is put back
+abbrev pub ask_last : Call → Operand → Rule Step
+ask_last c o = ask c behind.Anything (want.Last o)
+
+-- it reads a text as it stands
+abbrev pub read_text : Call → Until → Rule Step
+read_text c u = do
+  reads ← change (with_request c (need.Text u 0))
+  give step.More
+
+-- the argument behind a left delimiter or a comma
+abbrev pub argument : Call → Delimiters → Delimited → Rule Step
+argument c pair delimited.Expr = ask c (behind.Delimiter pair) (want.Followed operand.Expression)
+argument c pair delimited.Suffix = ask c (behind.Delimiter pair) (want.Followed operand.Suffix)
+argument c pair delimited.Text = read_text c (until.Delimiter pair)
+
+-- the argument of the next parameter, if there is one more
+abbrev pub go_on_by : Call → Option ParamKind → Rule Step
+go_on_by c None = whole c
+go_on_by c (Some kind.Expr) = opens c delimited.Expr
+go_on_by c (Some kind.Suffix) = opens c delimited.Suffix
+go_on_by c (Some kind.Text) = opens c delimited.Text
+go_on_by c (Some kind.Primary) = ask_last c operand.Primary
+go_on_by c (Some kind.Secondary) = ask_last c operand.Secondary
+go_on_by c (Some kind.Tertiary) = ask_last c operand.Tertiary
+go_on_by c (Some kind.BareExpr) = ask_last c operand.Expression
+go_on_by c (Some kind.ExprOf) = ask c behind.Of (want.Followed operand.Expression)
+go_on_by c (Some kind.BareSuffix) = ask_last c operand.Suffix
+go_on_by c (Some kind.BareText) = read_text c until.Statement
+
+abbrev pub go_on : Call → Rule Step
+go_on c = go_on_by c (parameter_next c)
+
+-- a macro is called, with the first of the arguments that its body needs
+abbrev pub call : Macro → List (List Item) → Rule Step
+call m got = go_on (record { called = m; got = got; next = 0; text = [] })

@@ -2,14 +2,16 @@
 use Rattle.std.specs.Prelude.{◌≡◌, ℕ, List, [], ◌∷◌, Option, Some, None, Result, Err, ◌⊎◌, drop}
 use Rattle.mp_report.specs.declared.place.Place.{Place}
 use Rattle.mp_values.specs.Outcome.{RuleBy, Cause}
-use Rattle.mp_values.specs.declared.meaning.Delimiters.{Delimiters}
 use Rattle.mp_values.specs.declared.stop.Stop.{Stop}
 use Rattle.mp_values.specs.declared.stop.Stop.TheVariants as stop
 use Rattle.mp_values.specs.declared.turn.Pending.{Pending}
+use Rattle.mp_expand.specs.declared.request.Behind.{Behind}
+use Rattle.mp_expand.specs.declared.request.Call.{Call}
 use Rattle.mp_expand.specs.declared.request.Delimited.{Delimited}
 use Rattle.mp_expand.specs.declared.request.Need.{Need}
 use Rattle.mp_expand.specs.declared.request.Need.TheVariants as need
 use Rattle.mp_expand.specs.declared.request.Request.{Request}
+use Rattle.mp_expand.specs.declared.request.Until.{Until}
 
 pub record Expansion : Type 0 where
   -- the text that is left
@@ -31,41 +33,41 @@ Rule A = RuleBy Cause Expansion A
 
 -- the newest call with something that it needs, and the others
 abbrev pub NewestWith : Type 0 → Type 0
-NewestWith A = Option ((Request × A) × List Request)
+NewestWith A = Option ((Call × A) × List Request)
 
--- where it reads a text: between what delimiters, and inside how many pairs of them
-abbrev pub reading_by : Request → List Request → Need → NewestWith (Delimiters × ℕ)
-reading_by r rs (need.Text pair depth) = Some ((r, (pair, depth)), rs)
-reading_by r rs n = None
+-- where it reads a text: up to what, and inside how many pairs
+abbrev pub reading_by : Call → List Request → Need → NewestWith (Until × ℕ)
+reading_by c rs (need.Text until depth) = Some ((c, (until, depth)), rs)
+reading_by c rs n = None
 
-abbrev pub reading : List Request → NewestWith (Delimiters × ℕ)
+abbrev pub reading : List Request → NewestWith (Until × ℕ)
 reading [] = None
-reading (r ∷ rs) = reading_by r rs r.need
+reading (r ∷ rs) = reading_by r.call rs r.need
 
 -- where it needs a left delimiter: before what argument
-abbrev pub opening_by : Request → List Request → Need → NewestWith Delimited
-opening_by r rs (need.Opening k) = Some ((r, k), rs)
-opening_by r rs n = None
+abbrev pub opening_by : Call → List Request → Need → NewestWith Delimited
+opening_by c rs (need.Opening k) = Some ((c, k), rs)
+opening_by c rs n = None
 
 abbrev pub opening : List Request → NewestWith Delimited
 opening [] = None
-opening (r ∷ rs) = opening_by r rs r.need
+opening (r ∷ rs) = opening_by r.call rs r.need
 
--- where it waits for an answer: between what delimiters
-abbrev pub waiting_by : Request → List Request → Need → NewestWith Delimiters
-waiting_by r rs (need.Answer pair) = Some ((r, pair), rs)
-waiting_by r rs n = None
+-- where it waits for an answer: what must stand behind it
+abbrev pub waiting_by : Call → List Request → Need → NewestWith Behind
+waiting_by c rs (need.Answer b) = Some ((c, b), rs)
+waiting_by c rs n = None
 
-abbrev pub waiting : List Request → NewestWith Delimiters
+abbrev pub waiting : List Request → NewestWith Behind
 waiting [] = None
-waiting (r ∷ rs) = waiting_by r rs r.need
+waiting (r ∷ rs) = waiting_by r.call rs r.need
 
 -- these calls and no others
 abbrev pub with_requests : List Request → Expansion → Expansion
 with_requests rs s = record s { requests = rs }
 
 -- that call is taken off the others; where there is none such, all is as before
-abbrev pub TakesOff : {A : Type 0} → NewestWith A → Option (Request × A) → Expansion → Expansion → Type 0
+abbrev pub TakesOff : {A : Type 0} → NewestWith A → Option (Call × A) → Expansion → Expansion → Type 0
 TakesOff newest (Some x) old new = (newest ≡ Some (x, new.requests)) × (new ≡ with_requests new.requests old)
 TakesOff newest None old new = (newest ≡ None) × (new ≡ old)
 

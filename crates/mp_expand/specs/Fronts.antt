@@ -1,8 +1,11 @@
 -- Fronts: the items of a text that expansion leaves as they are.
-use Rattle.std.specs.Prelude.{ℕ, List, [], Option, Some, None, Bool, true, false, unwrap_or, codes}
+use Rattle.std.specs.Prelude.{ℕ, List, [], Option, Some, None, Bool, true, false, unwrap_or, codes, if◌then◌else◌}
 use Rattle.mp_symbols.specs.Names.{Names, name_in, meaning_in}
 use Rattle.mp_values.specs.declared.meaning.Meaning.{Meaning}
-use Rattle.mp_values.specs.declared.meaning.Meaning.TheVariants.{NewTag}
+use Rattle.mp_values.specs.declared.meaning.Meaning.TheVariants as meaning
+use Rattle.mp_values.specs.declared.macros.Level.{Level}
+use Rattle.mp_values.specs.declared.macros.Level.TheVariants as level
+use Rattle.mp_values.specs.declared.macros.Macro.{Macro}
 use Rattle.mp_values.specs.Words.{unary_of}
 use Rattle.mp_values.specs.declared.word.Secondary.{Secondary}
 use Rattle.mp_values.specs.declared.word.Tertiary.{Tertiary}
@@ -20,7 +23,7 @@ name_of table symbol = unwrap_or (name_in table symbol) []
 
 -- a symbol past the table is a new tag
 abbrev pub meaning_of : Table → ℕ → Meaning
-meaning_of table symbol = unwrap_or (meaning_in table symbol) NewTag
+meaning_of table symbol = unwrap_or (meaning_in table symbol) meaning.NewTag
 
 -- WHAT A FRONT BEGINS, AND WHAT IT JOINS
 
@@ -33,6 +36,22 @@ secondary_in x = None
 abbrev pub tertiary_in : Front → Option Tertiary
 tertiary_in (front.Word symbol (word.Tertiary op)) = Some op
 tertiary_in x = None
+
+-- a macro of the one level joins operands at the other
+abbrev pub joins_at : Level → Level → Bool
+joins_at level.Primary level.Primary = true
+joins_at level.Secondary level.Secondary = true
+joins_at level.Tertiary level.Tertiary = true
+joins_at l other = false
+
+abbrev pub macro_at : Level → Meaning → Option Macro
+macro_at l (meaning.Macro m) = if joins_at l m.level then Some m else None
+macro_at l other = None
+
+-- the macro of a user that it is there, by what its symbol means
+abbrev pub operator_in : Table → Level → Front → Option Macro
+operator_in table l (front.Operator symbol) = macro_at l (meaning_of table symbol)
+operator_in table l x = None
 
 abbrev pub is_there : {A : Type 0} → Option A → Bool
 is_there (Some x) = true
@@ -51,6 +70,7 @@ begins_primary front.Capsule = true
 begins_primary (front.Word symbol w) = word_begins_primary w
 begins_primary (front.Tag symbol) = true
 begins_primary (front.Internal symbol k) = true
+begins_primary (front.Operator symbol) = false
 begins_primary (front.Left symbol pair) = true
 begins_primary (front.Right symbol pair) = false
 begins_primary front.EndOfText = false
@@ -71,6 +91,7 @@ stood table front.Capsule = codes "value"
 stood table (front.Word symbol w) = name_of table symbol
 stood table (front.Tag symbol) = name_of table symbol
 stood table (front.Internal symbol k) = name_of table symbol
+stood table (front.Operator symbol) = name_of table symbol
 stood table (front.Left symbol pair) = name_of table symbol
 stood table (front.Right symbol pair) = name_of table symbol
 stood table front.EndOfText = codes "end of text"

@@ -16,9 +16,14 @@ use Rattle.mp_expand.specs.Expansion.{Expansion}
 use Rattle.mp_expand.specs.Fronts.{Table}
 use Rattle.mp_expand.specs.declared.front.Front.{Front}
 use Rattle.mp_expand.specs.declared.front.Front.TheVariants as front
+use Rattle.mp_expand.specs.declared.request.Behind.{Behind}
+use Rattle.mp_expand.specs.declared.request.Behind.TheVariants as behind
+use Rattle.mp_expand.specs.declared.request.Call.{Call}
 use Rattle.mp_expand.specs.declared.request.Need.{Need}
 use Rattle.mp_expand.specs.declared.request.Need.TheVariants as need
 use Rattle.mp_expand.specs.declared.request.Request.{Request}
+use Rattle.mp_expand.specs.declared.request.Until.{Until}
+use Rattle.mp_expand.specs.declared.request.Until.TheVariants as until
 use Rattle.mp_expand.specs.declared.step.Step.{Step}
 use Rattle.mp_expand.specs.declared.step.Step.TheVariants as step
 
@@ -45,15 +50,26 @@ module _ (P : Item → Type 0) (N : ℕ → Type 0) where
   abbrev pub HoldsPair : Delimiters → Type 0
   HoldsPair pair = P (item.Symbol pair.left) × P (item.Symbol pair.right)
 
+  abbrev pub HoldsBehind : Behind → Type 0
+  HoldsBehind (behind.Delimiter pair) = HoldsPair pair
+  HoldsBehind other = ⊤
+
+  abbrev pub HoldsUntil : Until → Type 0
+  HoldsUntil (until.Delimiter pair) = HoldsPair pair
+  HoldsUntil until.Statement = ⊤
+
   abbrev pub HoldsNeed : Need → Type 0
   HoldsNeed (need.Opening k) = ⊤
-  HoldsNeed (need.Answer pair) = HoldsPair pair
-  HoldsNeed (need.Text pair depth) = HoldsPair pair
+  HoldsNeed (need.Answer b) = HoldsBehind b
+  HoldsNeed (need.Text u depth) = HoldsUntil u
+
+  pub record HoldsCall (c : Call) : Type 0 where
+    pub body : All P c.called.body
+    pub got : All (All P) c.got
+    pub text : All P c.text
 
   pub record HoldsRequest (r : Request) : Type 0 where
-    pub body : All P r.called.body
-    pub got : All (All P) r.got
-    pub text : All P r.text
+    pub call : HoldsCall r.call
     pub need : HoldsNeed r.need
 
   pub record Holds (s : Expansion) : Type 0 where
@@ -78,6 +94,7 @@ module _ (P : Item → Type 0) (N : ℕ → Type 0) where
   HoldsFront (front.Word symbol w) = P (item.Symbol symbol)
   HoldsFront (front.Tag symbol) = P (item.Symbol symbol)
   HoldsFront (front.Internal symbol k) = P (item.Symbol symbol) × N k
+  HoldsFront (front.Operator symbol) = P (item.Symbol symbol)
   HoldsFront (front.Left symbol pair) = P (item.Symbol symbol) × HoldsPair pair
   HoldsFront (front.Right symbol pair) = P (item.Symbol symbol) × HoldsPair pair
   HoldsFront other = ⊤

@@ -29,7 +29,7 @@ pub record InventsNothingOf (P : Item → Type 0) (N : ℕ → Type 0) : Type 0 
   pub answered : (table : Table) (a : Answer) (x : Front) (s : Expansion) → All P (items_of a) → Holds P N s
       → HoldsAfter P N (HoldsStep P N) (answered table a x s)
   pub called : (m : Macro) (got : List (List Item)) (s : Expansion) → All P m.body → All (All P) got → Holds P N s
-      → HoldsAfter P N (λ called. ⊤) (call m got s)
+      → HoldsAfter P N (HoldsStep P N) (call m got s)
   pub entered : (s : Expansion) → Holds P N s → HoldsAfter P N (λ entered. ⊤) (enter s)
   pub put_back : (x : Item) (s : Expansion) → P x → Holds P N s → Holds P N (put_back x s)
   pub started : (file : ℕ) (tokens : List Token) (s : Expansion) → All P (file_items file tokens) → Holds P N s → Holds P N (start file tokens s)
@@ -77,7 +77,13 @@ abbrev pub IsFree : {A : Type 0} → (A → Type 0) → Expansion → OutcomeBy 
 IsFree Q s (Ok x) = (x.1.budget ≡ s.budget) × (x.1.steps ≡ s.steps) × Q x.0
 IsFree Q s (Err e) = (e.1.budget ≡ s.budget) × (e.1.steps ≡ s.steps) × IsRefused e.0
 
--- what may come of an answer: no front, and behind the end of the text nothing is asked for
+-- what may come of a call: no front
+abbrev pub GoesOn : Step → Type 0
+GoesOn step.More = ⊤
+GoesOn (step.Want w) = ⊤
+GoesOn other = ⊥
+
+-- what may come of an answer: no front either, and behind the end of the text nothing is asked for
 abbrev pub MayFollow : Front → Step → Type 0
 MayFollow x step.More = ⊤
 MayFollow x (step.Want w) = x ≢ front.EndOfText
@@ -87,5 +93,5 @@ pub record StepsAreCounted : Type 0 where
   pub taken : (s : Expansion) → Pays cost_of_first s (take_first s)
   pub advanced : (table : Table) (s : Expansion) → Pays cost s (advance table s)
   pub answered : (table : Table) (a : Answer) (x : Front) (s : Expansion) → IsFree (MayFollow x) s (answered table a x s)
-  pub called : (m : Macro) (got : List (List Item)) (s : Expansion) → IsFree (λ called. ⊤) s (call m got s)
+  pub called : (m : Macro) (got : List (List Item)) (s : Expansion) → IsFree GoesOn s (call m got s)
   pub entered : (s : Expansion) → IsFree (λ entered. ⊤) s (enter s)

@@ -9,7 +9,7 @@ ghost use Rattle.mp_expand.specs.Expansion.{IsWhole, LosesCall, LosesFirst};
 use crate::Front;
 use crate::expander::Expander;
 use crate::names::meaning_of;
-use crate::request::{Delimited, Request};
+use crate::request::{Call, Delimited};
 use crate::step::Step;
 use mp_report::SourceError;
 use mp_scaled::Shared;
@@ -35,9 +35,7 @@ impl Expander {
         ensures lost { LosesCall result self.old self.new }
     {
         match self.reading() {
-            Some((request, (pair, depth))) => self.taken_in_text(
-                table, request, pair, depth, taken,
-            ),
+            Some((call, (until, depth))) => self.taken_in_text(table, call, until, depth, taken),
             None => self.expanded(table, taken),
         }
     }
@@ -84,24 +82,21 @@ impl Expander {
             Some(Meaning::Internal(k)) => Front::Internal(symbol, *k),
             Some(Meaning::Left(pair)) => Front::Left(symbol, *pair),
             Some(Meaning::Right(pair)) => Front::Right(symbol, *pair),
-            Some(Meaning::Macro(called)) => return self.call_by(called),
+            Some(Meaning::Macro(called)) => return self.macro_expanded(symbol, called),
         };
         self.reached(Step::Front(front))
     }
 
-    /// The macro of a symbol is called, if it is one of `def`; calls of operators are not built.
-    fn call_by(&mut self, called: &Shared<Macro>) -> Result<Step, Stop>
-        ensures exact { Yields result self.new (advance.call_by called.now.level called.now self.old) }
+    /// The macro of `def` is called; any other joins operands, and is a front.
+    fn macro_expanded(&mut self, symbol: u32, called: &Shared<Macro>) -> Result<Step, Stop>
+        ensures exact { Yields result self.new (advance.macro_by symbol called.now called.now.level self.old) }
         ensures kept { self.new.budget ≡ self.old.budget }
-        ensures whole { IsWhole result self.old self.new }
+        ensures lost { LosesCall result self.old self.new }
     {
         let alloc = self.alloc;
         match called.get().level {
-            Level::Plain => {
-                self.call(called.share()?, Arguments::new(alloc))?;
-                Ok(Step::More)
-            }
-            level => Err(Stop::not_built(alloc, level.definition().name())),
+            Level::Plain => self.call(called.share()?, Arguments::new(alloc)),
+            _ => self.reached(Step::Front(Front::Operator(symbol))),
         }
     }
 
@@ -112,18 +107,18 @@ impl Expander {
         ensures lost { LosesCall result self.old self.new }
     {
         match self.opening() {
-            Some((request, kind)) => self.opened(request, kind, step),
+            Some((call, kind)) => self.opened(call, kind, step),
             None => Ok(step),
         }
     }
 
-    fn opened(&mut self, request: Request, kind: Delimited, step: Step) -> Result<Step, Stop>
-        ensures exact { Yields result self.new (advance.opened request kind step self.old) }
+    fn opened(&mut self, call: Call, kind: Delimited, step: Step) -> Result<Step, Stop>
+        ensures exact { Yields result self.new (advance.opened call kind step self.old) }
         ensures kept { self.new.budget ≡ self.old.budget }
         ensures whole { IsWhole result self.old self.new }
     {
         match step {
-            Step::Front(Front::Left(_, pair)) => self.argument(request, pair, kind),
+            Step::Front(Front::Left(_, pair)) => self.argument(call, pair, kind),
             _ => Err(Stop::Refused(SourceError::BadArguments)),
         }
     }

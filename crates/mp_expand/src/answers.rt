@@ -1,16 +1,18 @@
 //! Expansion: what comes of an answer.
 
 ghost use Rattle.std.specs.Prelude.{◌≡◌, IfOk};
-ghost use Rattle.mp_values.specs.Outcome.{Yields};
+ghost use Rattle.mp_values.specs.Outcome.{IsStop, Yields};
+ghost use Rattle.mp_values.specs.Refusals.{unexpected};
 ghost use Rattle.mp_expand.specs.Advance as advance;
+ghost use Rattle.mp_expand.specs.Fronts as fronts;
 ghost use Rattle.mp_expand.specs.Expansion.{IsWhole, LosesFirst};
 
 use crate::Front;
 use crate::calls::are_pair;
 use crate::expander::Expander;
 use crate::names::name_of;
-use crate::request::{Delimited, Request};
-use crate::step::{Answer, Step};
+use crate::request::{Behind, Call};
+use crate::step::{Answer, Operand, Step};
 use mp_report::SourceError;
 use mp_scaled::{NoMemory, Shared};
 use mp_symbols::Symbols;
@@ -33,9 +35,10 @@ fn items_of(alloc: Global, answer: Answer) -> Result<Shared<Items>, NoMemory>
 
 impl Expander {
     /// The newest call gets what it waits for, with the front that stands behind it, which is used up: it asks for more,
-    /// or goes on with the text. An answer that no call waits for does nothing.
+    /// or goes on with the text. A front that was put back is not looked at. An answer that no call waits for does nothing.
     ///
-    /// `BadArguments` where an argument is missing or in excess, `Unexpected` where the last one is not closed.
+    /// `BadArguments` where an argument is missing or in excess, `Unexpected` where the last one is not closed, or `of` is
+    /// missing.
     #[tactic(auto, unfolding(crate::specs::Advance::answered))]
     pub fn answer(
         &mut self,
@@ -48,70 +51,73 @@ impl Expander {
         ensures lost { LosesFirst result self.old self.new }
     {
         match self.waiting() {
-            Some((request, pair)) => {
+            Some((call, behind)) => {
                 let alloc = self.alloc;
                 let items = items_of(alloc, answer)?;
                 self.leave();
-                let request = request.with_argument(alloc, items)?;
-                self.behind(table, request, pair, front)
+                let call = call.with_argument(alloc, items)?;
+                self.behind(table, call, behind, front)
             }
             None => Ok(Step::More),
         }
     }
 
-    /// Behind an argument.
+    /// Behind an argument that was asked for.
     fn behind(
         &mut self,
         table: &Symbols<Meaning>,
-        request: Request,
-        pair: Delimiters,
+        call: Call,
+        behind: Behind,
         front: Front,
     ) -> Result<Step, Stop>
-        ensures exact { Yields result self.new (advance.behind table.now.names request pair front self.old) }
+        ensures exact { Yields result self.new (advance.behind table.now.names call behind front self.old) }
         ensures kept { self.new.budget ≡ self.old.budget }
         ensures whole { IsWhole result self.old self.new }
     {
-        match request.argument_next() {
-            Some(kind) => self.behind_more(request, pair, kind, front),
-            None => self.behind_last(table, request, pair, front),
+        match behind {
+            Behind::Delimiter(pair) => self.delimited(table, call, pair, front),
+            Behind::Of => self.of(table, call, front),
+            Behind::Anything => self.whole(call),
         }
     }
 
-    /// Behind an argument that is not the last between delimiters: a comma, or the right delimiter and another group.
-    fn behind_more(
-        &mut self,
-        request: Request,
-        pair: Delimiters,
-        kind: Delimited,
-        front: Front,
-    ) -> Result<Step, Stop>
-        ensures exact { Yields result self.new (advance.behind_more request pair kind front self.old) }
-        ensures kept { self.new.budget ≡ self.old.budget }
-        ensures whole { IsWhole result self.old self.new }
-    {
-        match front {
-            Front::Word(_, Word::Comma) => self.argument(request, pair, kind),
-            Front::Right(_, other) if are_pair(pair, other) => self.closed(request),
-            _ => Err(Stop::Refused(SourceError::BadArguments)),
-        }
-    }
-
-    /// Behind the last: the right delimiter.
-    fn behind_last(
+    /// Behind an argument between delimiters: a comma and another one, or the right delimiter.
+    fn delimited(
         &mut self,
         table: &Symbols<Meaning>,
-        request: Request,
+        call: Call,
         pair: Delimiters,
         front: Front,
     ) -> Result<Step, Stop>
-        ensures exact { Yields result self.new (advance.behind_last table.now.names request pair front self.old) }
+        ensures exact { Yields result self.new (advance.delimited table.now.names call pair front self.old) }
+        ensures kept { self.new.budget ≡ self.old.budget }
+        ensures whole { IsWhole result self.old self.new }
+    {
+        let next = call.argument_next();
+        match (front, next) {
+            (Front::Word(_, Word::Comma), Some(kind)) => self.argument(call, pair, kind),
+            (Front::Word(_, Word::Comma), None) => Err(Stop::Refused(SourceError::BadArguments)),
+            (Front::Right(_, other), _) if are_pair(pair, other) => self.go_on(call),
+            (_, Some(_)) => Err(Stop::Refused(SourceError::BadArguments)),
+            (_, None) => Err(self.unexpected(table, name_of(table, pair.right), front)),
+        }
+    }
+
+    /// Behind the first of two arguments without delimiters.
+    fn of(&mut self, table: &Symbols<Meaning>, call: Call, front: Front) -> Result<Step, Stop>
+        ensures exact { Yields result self.new (advance.of_by table.now.names call front self.old) }
         ensures kept { self.new.budget ≡ self.old.budget }
         ensures whole { IsWhole result self.old self.new }
     {
         match front {
-            Front::Word(_, Word::Comma) => Err(Stop::Refused(SourceError::BadArguments)),
-            Front::Right(_, other) if are_pair(pair, other) => self.closed(request),
-            _ => Err(Stop::unexpected(self.alloc, name_of(table, pair.right), front.stood(table))),
+            Front::Word(_, Word::Of) => self.ask_last(call, Operand::Primary),
+            _ => Err(self.unexpected(table, b"of", front)),
         }
+    }
+
+    fn unexpected(&self, table: &Symbols<Meaning>, wanted: &[u8], front: Front) -> Stop
+        ensures { IsStop result (unexpected wanted.now (fronts.stood table.now.names front)) }
+    {
+        Stop::unexpected(self.alloc, wanted, front.stood(table))
     }
 }

@@ -20,6 +20,8 @@ pub enum Front {
     Tag(u32),
     /// A symbol that means the internal of that number.
     Internal(u32, u32),
+    /// A symbol that means a macro which joins operands.
+    Operator(u32),
     /// A symbol that is the left one of two delimiters.
     Left(u32, Delimiters),
     /// A symbol that is the right one of two delimiters.
@@ -61,7 +63,7 @@ impl Front {
             | Front::Internal(_, _)
             | Front::Left(_, _) => true,
             Front::Word(_, word) => word_begins_primary(*word),
-            Front::Right(_, _) | Front::EndOfText => false,
+            Front::Operator(_) | Front::Right(_, _) | Front::EndOfText => false,
         }
     }
 

@@ -26,5 +26,5 @@ pub use expander::Expander;
 pub use front::Front;
 pub use laws::{expansion_invents_nothing, steps_are_counted};
 pub use limits::NESTING_LIMIT;
-pub use request::{Delimited, Need, Request};
-pub use step::{Answer, Step, Want};
+pub use request::{Behind, Call, Delimited, Need, Request, Until};
+pub use step::{Answer, Operand, Step, Want};

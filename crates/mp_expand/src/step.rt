@@ -4,13 +4,28 @@ use crate::Front;
 use mp_scaled::{Shared, SharedSlice};
 use mp_values::{Items, Value};
 
-/// What a call asks for.
+/// What is read for a call.
 #[derive(Clone, Copy, Debug, PartialEq, Eq)]
-pub enum Want {
+pub enum Operand {
+    /// The value of a primary.
+    Primary,
+    /// The value of a secondary.
+    Secondary,
+    /// The value of a tertiary.
+    Tertiary,
     /// The value of an expression.
     Expression,
     /// The parts of a suffix.
     Suffix,
+}
+
+/// What a call asks for.
+#[derive(Clone, Copy, Debug, PartialEq, Eq)]
+pub enum Want {
+    /// An operand, and the front behind it.
+    Followed(Operand),
+    /// An operand without delimiters, the last argument: the front behind it is put back before it is answered.
+    Last(Operand),
 }
 
 /// What is answered to a call that asked.

@@ -9,7 +9,7 @@ use Rattle.mp_vartree.specs.declared.names.Shape.{Shape}
 use Rattle.mp_expand.specs.declared.step.Want.{Want}
 use Rattle.mp_rules.specs.Machine.{Machine}
 use Rattle.mp_rules.specs.declared.chain_side.ChainSide.{ChainSide as Side}
-use Rattle.mp_rules.specs.Rules.{case, NextFront, next_front, NextRaw, next_raw, Operand, operand, NumberThen, number_then, Factor, factor, VariableName, variable_name, NameFrom, name_from, Suffix, suffix, Group, group, PrimaryInside, primary_inside, Primary, primary, LeadingInside, leading_inside, Leading, leading, SecondaryRest, secondary_rest, Secondary, secondary, TertiaryRest, tertiary_rest, ExpressionFrom, expression_from, Expression, expression, ChainSide, chain_side, ChainRest, chain_rest, Chain, chain, ShowList, show_list, SymbolList, symbol_list, DeclaredName, declared_name, TypeList, type_list, CommandRest, command_rest, Statement, statement, GroupStatements, group_statements, Statements, statements}
+use Rattle.mp_rules.specs.Rules.{case, NextFront, next_front, NextRaw, next_raw, Asked, asked, NumberThen, number_then, Factor, factor, VariableName, variable_name, NameFrom, name_from, Suffix, suffix, SuffixBehind, suffix_behind, Group, group, PrimaryInside, primary_inside, Primary, primary, LeadingInside, leading_inside, Leading, leading, SecondaryRest, secondary_rest, Secondary, secondary, TertiaryRest, tertiary_rest, Tertiary, tertiary, ExpressionRest, expression_rest, ExpressionFrom, expression_from, Expression, expression, ChainSide, chain_side, ChainRest, chain_rest, Chain, chain, ShowList, show_list, SymbolList, symbol_list, DeclaredName, declared_name, TypeList, type_list, CommandRest, command_rest, Statement, statement, GroupStatements, group_statements, Statements, statements}
 use Rattle.mp_rules.specs.Meaning.{the}
 use Rattle.mp_rules.proofs.Enough.{the_is}
 
@@ -21,9 +21,9 @@ pub next_raw_is : (s : Machine) → the NextRaw s ≡ next_raw the s
 unfolding case
 next_raw_is s = the_is NextRaw s
 
-pub operand_is : (w : Want) (s : Machine) → the (Operand w) s ≡ operand the w s
+pub asked_is : (w : Want) (s : Machine) → the (Asked w) s ≡ asked the w s
 unfolding case
-operand_is w s = the_is (Operand w) s
+asked_is w s = the_is (Asked w) s
 
 pub number_then_is : (n : ℤ) (s : Machine) → the (NumberThen n) s ≡ number_then the n s
 unfolding case
@@ -44,6 +44,10 @@ name_from_is symbol root parts s = the_is (NameFrom symbol root parts) s
 pub suffix_is : (parts : List Part) (s : Machine) → the (Suffix parts) s ≡ suffix the parts s
 unfolding case
 suffix_is parts s = the_is (Suffix parts) s
+
+pub suffix_behind_is : (count : ℕ) (parts : List Part) (s : Machine) → the (SuffixBehind count parts) s ≡ suffix_behind the count parts s
+unfolding case
+suffix_behind_is count parts s = the_is (SuffixBehind count parts) s
 
 pub group_is : (s : Machine) → the Group s ≡ group the s
 unfolding case
@@ -76,6 +80,14 @@ secondary_is s = the_is Secondary s
 pub tertiary_rest_is : (v : Value) (s : Machine) → the (TertiaryRest v) s ≡ tertiary_rest the v s
 unfolding case
 tertiary_rest_is v s = the_is (TertiaryRest v) s
+
+pub tertiary_is : (s : Machine) → the Tertiary s ≡ tertiary the s
+unfolding case
+tertiary_is s = the_is Tertiary s
+
+pub expression_rest_is : (v : Value) (s : Machine) → the (ExpressionRest v) s ≡ expression_rest the v s
+unfolding case
+expression_rest_is v s = the_is (ExpressionRest v) s
 
 pub expression_from_is : (v : Value) (s : Machine) → the (ExpressionFrom v) s ≡ expression_from the v s
 unfolding case

@@ -5,8 +5,8 @@ use Rattle.mp_report.specs.declared.error.Cap.TheVariants as cap
 use Rattle.mp_report.specs.declared.error.SourceError.TheVariants as error
 use Rattle.mp_values.specs.Outcome.{◌>>=◌, lift, Refused}
 use Rattle.mp_values.specs.Outcome as outcomes
-use Rattle.mp_values.specs.Refusals.{not_built, bad_token}
-use Rattle.mp_values.specs.Words.{unary_of, name_of_definition, definition_of}
+use Rattle.mp_values.specs.Refusals.{bad_token}
+use Rattle.mp_values.specs.Words.{unary_of}
 use Rattle.mp_values.specs.declared.item.Item.{Item}
 use Rattle.mp_values.specs.declared.item.Item.TheVariants as item
 use Rattle.mp_values.specs.declared.meaning.Delimiters.{Delimiters}
@@ -47,17 +47,19 @@ use Rattle.mp_acts.specs.Lines.{show, speak}
 use Rattle.mp_acts.specs.Groups.{begin_group, end_group, with_each, let_symbol, delimiters, interim}
 use Rattle.mp_acts.specs.declared.target.Target.TheVariants as target
 use Rattle.mp_rules.specs.Machine.{Machine, Rule, weight, held_weight, coming, left}
-use Rattle.mp_expand.specs.Fronts.{begins_primary, begins_factor, secondary_in, tertiary_in}
+use Rattle.mp_expand.specs.Fronts.{Table, begins_primary, begins_factor, secondary_in, tertiary_in, operator_in}
 use Rattle.mp_expand.specs.Calls.{are_pair}
 use Rattle.mp_expand.specs.declared.front.Front.{Front}
 use Rattle.mp_expand.specs.declared.front.Front.TheVariants as front
 use Rattle.mp_expand.specs.declared.step.Answer.TheVariants as answer
+use Rattle.mp_expand.specs.declared.step.Operand.{Operand}
+use Rattle.mp_expand.specs.declared.step.Operand.TheVariants as operand
 use Rattle.mp_expand.specs.declared.step.Step.{Step}
 use Rattle.mp_expand.specs.declared.step.Step.TheVariants as step
 use Rattle.mp_expand.specs.declared.step.Want.{Want}
 use Rattle.mp_expand.specs.declared.step.Want.TheVariants as want
 use Rattle.mp_rules.specs.Fronts.{taken_item, taken_as, refused_front, refused_raw}
-use Rattle.mp_rules.specs.Steps.{leave, see, see_string, see_value, hold}
+use Rattle.mp_rules.specs.Steps.{leave, see, see_string, see_value, hold, item_in_hand, item_held, put_back, put_held_back, put_front_back, put_hand_back, put_bracket_back}
 use Rattle.mp_rules.specs.Chains.{settle}
 use Rattle.mp_rules.specs.Definitions.{read_in, taken_read, unless_whole, read_on}
 use Rattle.mp_rules.specs.declared.front.Taken.{Taken}
@@ -69,8 +71,8 @@ use Rattle.mp_rules.specs.declared.chain_side.ChainSide.{ChainSide as Side}
 use Rattle.mp_rules.specs.declared.chain_side.ChainSide.TheVariants as side
 use Rattle.mp_rules.specs.declared.named.Named.{Named}
 use Rattle.mp_rules.specs.declared.named.Named.TheVariants as named
-use Rattle.mp_rules.specs.Rules.{Rules, What, NextFront, NextRaw, Operand, NumberThen, Factor, VariableName, NameFrom, Suffix, Group, PrimaryInside, Primary, LeadingInside, Leading, SecondaryRest, Secondary, TertiaryRest, ExpressionFrom, Expression, ChainSide, ChainRest, Chain, ShowList, SymbolList, DeclaredName, TypeList, CommandRest, Statement, GroupStatements, Statements}
-use Rattle.mp_rules.specs.Rules.{shape_of, step_by, held_or_taken, next_front, item_of_part, operand_of, wanted_by, operand, raw_of, next_raw, symbol_in, raw_symbol, next_primary, next_expression, factor_by, over_by, then_by, number, room_by, room_for_part, part_on, bracket_by, bracketed, part_used, part_by, suffix_by, suffix, called_with, called_by, name_on, name_from_by, variable_name, variable_named, or_begun_anew, variable, closed_if, closed_by, parenthesis, group, string_primary, value_primary, internal, str_primary, applied, applied_by, primary_by, primary, variable_side_by, internal_side_by, leading_named, leading_by, leading, secondary_by, secondary, tertiary_by, expression_from, expression, side_from, chain_side, chain_on, lone_or_vacuous, chain_end, chain_by, chain, show_by, show_list, symbols_by, symbol_list, shape_on, empty_by, name_by, type_by, type_list, is_equals, equals_by, equals_in, raw_equals, let_equal, delimiter_pair, then_next, internal_in, assign_in, internal_name, assign_sign, interim_value, spoken, command_rest, definition, chain_if, statement_by, may_stand_alone, more_by, group_more, group_by, group_statements, end_by, statements, case}
+use Rattle.mp_rules.specs.Rules.{Rules, What, NextFront, NextRaw, Asked, NumberThen, Factor, VariableName, NameFrom, Suffix, SuffixBehind, Group, PrimaryInside, Primary, LeadingInside, Leading, SecondaryRest, Secondary, TertiaryRest, Tertiary, ExpressionRest, ExpressionFrom, Expression, ChainSide, ChainRest, Chain, ShowList, SymbolList, DeclaredName, TypeList, CommandRest, Statement, GroupStatements, Statements}
+use Rattle.mp_rules.specs.Rules.{shape_of, step_by, held_or_taken, next_front, item_of_part, value_answer, operand_of, answer_to, wanted_by, asked, raw_of, next_raw, symbol_in, raw_symbol, next_primary, next_expression, factor_by, over_by, then_by, number, room_by, room_for_part, part_on, bracket_by, bracketed, part_used, part_by, suffix_by, suffix, subscript_part, bracket_behind_by, part_behind_by, behind_on, suffix_behind, called_with, call_on, called_named, called_by, name_on, name_from_by, variable_name, variable_named, or_begun_anew, variable, closed_if, closed_by, parenthesis, group, string_primary, value_primary, internal, str_primary, applied, applied_by, primary_by, primary, variable_side_by, internal_side_by, leading_named, leading_by, leading, capsule, operator_here, joined, secondary_by, secondary, next_secondary, tertiary_by, tertiary, expression_by, expression_from, expression, side_from, chain_side, chain_on, lone_or_vacuous, chain_end, chain_by, chain, show_by, show_list, symbols_by, symbol_list, shape_on, empty_by, name_by, type_by, type_list, is_equals, equals_by, equals_in, raw_equals, let_equal, delimiter_pair, then_next, internal_in, assign_in, internal_name, assign_sign, interim_value, spoken, command_rest, definition, chain_if, statement_by, may_stand_alone, more_by, group_more, group_by, group_statements, end_by, statements, case}
 use Rattle.mp_expand.specs.Laws.{cost, cost_of_first}
 use Rattle.mp_rules.specs.Promises.{from, used_by, used_by_side, used_by_part, used_by_step}
 use Rattle.mp_rules.specs.Meaning.{rule, the, depth}
@@ -112,17 +114,6 @@ cost_of_taken (Some (pending.Item x)) = cost_of_item x
 cost_of_taken (Some (pending.Turn turn)) = omega arith
 cost_of_taken None = omega arith
 
-weight_small : (x : Front) → weight x ≤ 1
-weight_small (front.Number n) = omega arith
-weight_small front.Text = omega arith
-weight_small front.Capsule = omega arith
-weight_small (front.Word symbol w) = omega arith
-weight_small (front.Tag symbol) = omega arith
-weight_small (front.Internal symbol k) = omega arith
-weight_small (front.Left symbol pair) = omega arith
-weight_small (front.Right symbol pair) = omega arith
-weight_small front.EndOfText = omega arith
-
 -- FRONTS AND RAW ITEMS
 
 -- a front comes to hand in place of the last one
@@ -136,6 +127,7 @@ front_cost front.Capsule = omega arith
 front_cost (front.Word symbol w) = omega arith
 front_cost (front.Tag symbol) = omega arith
 front_cost (front.Internal symbol k) = omega arith
+front_cost (front.Operator symbol) = omega arith
 front_cost (front.Left symbol pair) = omega arith
 front_cost (front.Right symbol pair) = omega arith
 front_cost front.EndOfText = omega arith
@@ -147,7 +139,7 @@ step_by-agrees r1 r2 (step.Front x) b t p h = let small : weight x ≤ cost (ste
 step_by-agrees r1 r2 (step.Text bytes) b t p h = given tt (see_string bytes t) (λ next. Fewer b) (record { went = omega arith })
 step_by-agrees r1 r2 (step.Capsule v) b t p h = given tt (see_value v t) (λ next. Fewer b) (record { went = omega arith })
 step_by-agrees r1 r2 (step.Want w) b t p h =
-    agree-then (h.at (Operand w) t (omega arith)) (λ served u q.
+    agree-then (h.at (Asked w) t (omega arith)) (λ served u q.
     weaker (h.at NextFront u (omega arith)) (λ next y a. record { went = omega arith }))
 
 held-agrees : (r1 r2 : Rules) (held : Option Front) (s : Machine) → held_weight held ≤ held_weight s.held → Below r1 r2 (64 * coming s)
@@ -158,28 +150,81 @@ held-agrees r1 r2 None s p h = agree-then (advanced s) (λ x t q. step_by-agrees
 next_front-agrees : (r1 r2 : Rules) (s : Machine) → Below r1 r2 (64 * coming s) → Agree (next_front r1 s) (next_front r2 s) (λ next. Fewer (coming s))
 next_front-agrees r1 r2 s h = held-agrees r1 r2 s.held s (omega arith) h
 
-operand_of-agrees : (r1 r2 : Rules) (w : Want) (m : ℕ) (s : Machine) → 64 * left s + 9 < m → Below r1 r2 m
-    → Agree (operand_of r1 w s) (operand_of r2 w s) (λ answer. Fewer (left s))
-operand_of-agrees r1 r2 want.Expression m s c h =
-    agree-then (h.at Expression s (omega arith)) (λ v t p. given (answer.Value v) t (λ answer. Fewer (left s)) (record { went = p.went }))
-operand_of-agrees r1 r2 want.Suffix m s c h =
+-- what is in hand is put back: no step is given back for it
+back_coming : (x : Option Item) (s : Machine) → coming (put_back x s) ≡ coming s
+back_coming (Some x) s = refl
+back_coming None s = refl
+
+back_hand : (x : Option Item) (s : Machine) → (put_back x s).front ≡ s.front
+back_hand (Some x) s = refl
+back_hand None s = refl
+
+front_back : (s : Machine) → left (put_front_back s) ≤ coming s
+front_back s =
+    let gone : Machine = see front.EndOfText s in
+    let none = ap weight (back_hand (item_in_hand s s.front) gone) in
+    omega (arith, back_coming (item_in_hand s s.front) gone, none)
+
+hand_back : (s : Machine) → left (put_hand_back s) ≤ coming s
+hand_back s =
+    let gone : Machine = record s { held = None } in
+    omega (arith, front_back (put_held_back s), back_coming (item_held s s.held) gone)
+
+put_back-agrees : (s : Machine) → Agree {A = Unit {0}} (Ok (tt, put_hand_back s)) (Ok (tt, put_hand_back s)) (λ x. Fewer (coming s))
+put_back-agrees s = given tt (put_hand_back s) (λ x. Fewer (coming s)) (record { went = omega (arith, hand_back s) })
+
+value_answer-agrees : (r1 r2 : Rules) (does other : Rule Value) (s : Machine) → Agree (does s) (other s) (λ v. Fewer (left s))
+    → Agree (value_answer does s) (value_answer other s) (λ answer. Fewer (left s))
+value_answer-agrees r1 r2 does other s a = agree-then a (λ v t p. given (answer.Value v) t (λ answer. Fewer (left s)) (record { went = p.went }))
+
+operand_of-agrees : (r1 r2 : Rules) (o : Operand) (m : ℕ) (s : Machine) → 64 * left s + 11 < m → Below r1 r2 m
+    → Agree (operand_of r1 o s) (operand_of r2 o s) (λ answer. Fewer (left s))
+operand_of-agrees r1 r2 operand.Primary m s c h = value_answer-agrees r1 r2 (r1 Primary) (r2 Primary) s (h.at Primary s (omega arith))
+operand_of-agrees r1 r2 operand.Secondary m s c h = value_answer-agrees r1 r2 (r1 Secondary) (r2 Secondary) s (h.at Secondary s (omega arith))
+operand_of-agrees r1 r2 operand.Tertiary m s c h = value_answer-agrees r1 r2 (r1 Tertiary) (r2 Tertiary) s (h.at Tertiary s (omega arith))
+operand_of-agrees r1 r2 operand.Expression m s c h = value_answer-agrees r1 r2 (r1 Expression) (r2 Expression) s (h.at Expression s (omega arith))
+operand_of-agrees r1 r2 operand.Suffix m s c h =
     agree-then (h.at (Suffix []) s (omega arith)) (λ parts t p. given (answer.Suffix (map item_of_part parts)) t (λ answer. Fewer (left s)) (record { went = p.went }))
 
-wanted_by-agrees : (r1 r2 : Rules) (x : Step) (b m : ℕ) (t : Machine) → left t + used_by_step x ≤ b → 64 * b + 10 ≤ m → Below r1 r2 m
-    → Agree (wanted_by r1 x t) (wanted_by r2 x t) (λ next. Fewer b)
-wanted_by-agrees r1 r2 (step.Want w) b m t p c h = weaker (h.at (Operand w) t (omega arith)) (λ next u q. record { went = omega arith })
-wanted_by-agrees r1 r2 step.More b m t p c h = given tt t (λ next. Fewer b) (record { went = p })
-wanted_by-agrees r1 r2 (step.Front x) b m t p c h = given tt t (λ next. Fewer b) (record { went = p })
-wanted_by-agrees r1 r2 (step.Text bytes) b m t p c h = given tt t (λ next. Fewer b) (record { went = p })
-wanted_by-agrees r1 r2 (step.Capsule v) b m t p c h = given tt t (λ next. Fewer b) (record { went = p })
+answer_to-agrees : (r1 r2 : Rules) (w : Want) (m : ℕ) (s : Machine) → 64 * left s + 11 < m → Below r1 r2 m
+    → Agree (answer_to r1 w s) (answer_to r2 w s) (λ answer. Fewer (left s))
+answer_to-agrees r1 r2 (want.Followed o) m s c h = operand_of-agrees r1 r2 o m s c h
+answer_to-agrees r1 r2 (want.Last o) m s c h =
+    agree-then (operand_of-agrees r1 r2 o m s c h) (λ a t p.
+    agree-then (put_back-agrees t) (λ back u q.
+    given a u (λ answer. Fewer (left s)) (record { went = omega (arith, p.went, q.went) })))
 
-operand-agrees : (r1 r2 : Rules) (w : Want) (s : Machine) → Below r1 r2 (measure (Operand w) s)
-    → Agree (operand r1 w s) (operand r2 w s) (λ next. Fewer (coming s))
-operand-agrees r1 r2 w s h =
+-- a call that asks for more used a front, or may use what is behind it
+wanted_by-agrees : (r1 r2 : Rules) (x : Step) (b m : ℕ) (t : Machine) → left t ≤ b → 64 * (coming t + used_by_step x) + 13 < m + 64 → Below r1 r2 m
+    → Agree (wanted_by r1 x t) (wanted_by r2 x t) (λ next. Fewer b)
+wanted_by-agrees r1 r2 (step.Want w) b m t p c h = weaker (h.at (Asked w) t (omega arith)) (λ next u q. record { went = omega arith })
+wanted_by-agrees r1 r2 step.More b m t p c h = given tt t (λ next. Fewer b) (record { went = omega (arith, p) })
+wanted_by-agrees r1 r2 (step.Front x) b m t p c h = given tt t (λ next. Fewer b) (record { went = omega (arith, p) })
+wanted_by-agrees r1 r2 (step.Text bytes) b m t p c h = given tt t (λ next. Fewer b) (record { went = omega (arith, p) })
+wanted_by-agrees r1 r2 (step.Capsule v) b m t p c h = given tt t (λ next. Fewer b) (record { went = omega (arith, p) })
+
+used_step_small : (x : Step) → used_by_step x ≤ 1
+used_step_small (step.Want w) = omega arith
+used_step_small step.More = omega arith
+used_step_small (step.Front x) = omega arith
+used_step_small (step.Text bytes) = omega arith
+used_step_small (step.Capsule v) = omega arith
+
+asked-agrees : (r1 r2 : Rules) (w : Want) (s : Machine) → Below r1 r2 (measure (Asked w) s)
+    → Agree (asked r1 w s) (asked r2 w s) (λ next. Fewer (coming s))
+asked-agrees r1 r2 w s h =
     agree-then (h.at NextFront s (omega arith)) (λ first t p.
-    agree-then (operand_of-agrees r1 r2 w _ t (omega arith) h) (λ a u q.
+    agree-then (answer_to-agrees r1 r2 w _ t (omega (arith, p.went)) h) (λ a u q.
     agree-then (answers a u) (λ x y e.
-    wanted_by-agrees r1 r2 x (coming s) _ y (omega (arith, p.went, q.went, e.went)) (omega arith) h)))
+    wanted_by-agrees r1 r2 x (coming s) _ y (omega (arith, p.went, q.went, e.went)) (omega (arith, p.went, q.went, e.went)) h)))
+
+-- a macro is called, and the front behind it is got
+call_on-agrees : (r1 r2 : Rules) (k : Macro) (got : List (List Item)) (m : ℕ) (s : Machine) → 64 * coming s + 13 < m → Below r1 r2 m
+    → Agree (call_on r1 k got s) (call_on r2 k got s) (λ next. Fewer (coming s))
+call_on-agrees r1 r2 k got m s c h =
+    agree-then (calls k got s) (λ x t p.
+    agree-then (wanted_by-agrees r1 r2 x (left t) m t (omega arith) (omega (arith, p.went, p.hand, used_step_small x)) h) (λ served u q.
+    weaker (h.at NextFront u (omega (arith, p.went, p.hand, q.went))) (λ next y e. record { went = omega (arith, p.went, p.hand, q.went, e.went) })))
 
 raw_of-agrees : (r1 r2 : Rules) (x : Taken) (s t : Machine) (k : ℕ) → coming t + k ≤ coming s → taken_cost x ≤ k → t.front ≡ front.EndOfText
     → Below r1 r2 (64 * coming s) → Agree (raw_of r1 x t) (raw_of r2 x t) (λ next. Fewer (coming s))
@@ -214,7 +259,7 @@ next_primary-agrees r1 r2 m s c h =
     agree-then (h.at NextFront s (omega arith)) (λ first t p.
     weaker (h.at Primary t (omega arith)) (λ v u q. record { went = omega arith }))
 
-next_expression-agrees : (r1 r2 : Rules) (m : ℕ) (s : Machine) → 64 * coming s + 9 < m → Below r1 r2 m
+next_expression-agrees : (r1 r2 : Rules) (m : ℕ) (s : Machine) → 64 * coming s + 11 < m → Below r1 r2 m
     → Agree (next_expression r1 s) (next_expression r2 s) (λ answer. Fewer (coming s))
 next_expression-agrees r1 r2 m s c h =
     agree-then (h.at NextFront s (omega arith)) (λ first t p.
@@ -278,7 +323,7 @@ bracket-agrees : (x : Front) (s : Machine) → Agree (bracket_by x s) (bracket_b
 bracket-agrees (front.Word symbol word.RightBracket) s = given tt s (λ y. AsMany s) (record { went = refl; hand = refl })
 bracket-agrees x s = stopped (refused_front (codes "]") s) s (λ y. AsMany s) tt
 
-bracketed-agrees : (r1 r2 : Rules) (m : ℕ) (s : Machine) → 64 * coming s + 9 < m → Below r1 r2 m
+bracketed-agrees : (r1 r2 : Rules) (m : ℕ) (s : Machine) → 64 * coming s + 11 < m → Below r1 r2 m
     → Agree (bracketed r1 s) (bracketed r2 s) (λ value. Fewer (coming s))
 bracketed-agrees r1 r2 m s c h =
     agree-then (next_expression-agrees r1 r2 m s c h) (λ v u q.
@@ -316,22 +361,81 @@ suffix-agrees r1 r2 parts s h =
     agree-then (part_by-agrees r1 r2 s.front _ s (omega arith) (omega arith) h) (λ p t q.
     suffix_by-agrees r1 r2 parts p (left s) _ t q.went (omega arith) h)
 
-name_on-agrees : (r1 r2 : Rules) (symbol root : ℕ) (parts : List Part) (p : Option Part) (b m : ℕ) (t : Machine) → left t + used_by_part p ≤ b → 64 * b + 1 ≤ m
+name_on-agrees : (r1 r2 : Rules) (symbol root : ℕ) (parts : List Part) (p : Option Part) (b m : ℕ) (t : Machine) → left t + used_by_part p ≤ b → 64 * b + 14 ≤ m
     → Below r1 r2 m → Agree (name_on r1 symbol root parts p t) (name_on r2 symbol root parts p t) (λ answer. Fewer b)
 name_on-agrees r1 r2 symbol root parts None b m t q c h = given (named.Variable root parts) t (λ answer. Fewer b) (record { went = omega arith })
 name_on-agrees r1 r2 symbol root parts (Some p) b m t q c h =
     agree-then (room-agrees (length parts) t) (λ room u a.
     weaker (h.at (NameFrom symbol root (parts ++ p ∷ [])) u (omega arith)) (λ answer w e. record { went = omega arith }))
 
-called_by-agrees : (r1 r2 : Rules) (symbol : ℕ) (parts : List Part) (k : Macro) (l : Level) (m : ℕ) (s : Machine) → 64 * coming s < m → Below r1 r2 m
-    → Agree (called_by r1 symbol parts k l s) (called_by r2 symbol parts k l s) (λ answer. Fewer (coming s))
-called_by-agrees r1 r2 symbol parts k level.Variable m s c h =
-    agree-then (calls k (called_with symbol parts) s) (λ called t p.
-    agree-then (h.at NextFront t (omega arith)) (λ next u q.
-    given named.Called u (λ answer. Fewer (coming s)) (record { went = omega arith })))
-called_by-agrees r1 r2 symbol parts k l m s c h = stopped (not_built (name_of_definition (definition_of l))) s (λ answer. Fewer (coming s)) tt
+subscript_part-agrees : (v : Value) (b : ℕ) (s : Machine) → left s + 1 ≤ b
+    → Agree (subscript_part v s) (subscript_part v s) (λ answer. FewerBy b (used_by_part answer))
+subscript_part-agrees v b s c =
+    agree-then (bracket-agrees s.front s) (λ closed t p.
+    agree-then (acted (subscript v t.acts) t) (λ units u q.
+    part_used-agrees (part.Sub units) b u (omega (arith, p.went, q.went))))
 
-name_from_by-agrees : (r1 r2 : Rules) (symbol root : ℕ) (parts : List Part) (k : Option Macro) (m : ℕ) (s : Machine) → 64 * coming s + 1 ≤ m → Below r1 r2 m
+bracket_back : (bracket : ℕ) (v : Value) (s : Machine) → left (put_bracket_back bracket v s) ≤ coming s
+bracket_back bracket v s = hand_back s
+
+bracket_word-agrees : (bracket : ℕ) (v : Value) (symbol : ℕ) (w : Word) (b : ℕ) (s : Machine) → left s + 1 ≤ b
+    → Agree (bracket_behind_by bracket v (front.Word symbol w) s) (bracket_behind_by bracket v (front.Word symbol w) s) (λ answer. FewerBy b (used_by_part answer))
+bracket_word-agrees bracket v symbol word.Comma b s c =
+    given None (put_bracket_back bracket v s) (λ answer. FewerBy b (used_by_part answer)) (record { went = omega (arith, bracket_back bracket v s) })
+bracket_word-agrees bracket v symbol w b s c = subscript_part-agrees v b s c
+
+bracket_behind-agrees : (bracket : ℕ) (v : Value) (x : Front) (b : ℕ) (s : Machine) → left s + 1 ≤ b
+    → Agree (bracket_behind_by bracket v x s) (bracket_behind_by bracket v x s) (λ answer. FewerBy b (used_by_part answer))
+bracket_behind-agrees bracket v (front.Word symbol w) b s c = bracket_word-agrees bracket v symbol w b s c
+bracket_behind-agrees bracket v x b s c = subscript_part-agrees v b s c
+
+ends_behind-agrees : (s : Machine)
+    → Agree {A = Option Part} (Ok (None, put_hand_back s)) (Ok (None, put_hand_back s)) (λ answer. FewerBy (left s) (used_by_part answer))
+ends_behind-agrees s = given None (put_hand_back s) (λ answer. FewerBy (left s) (used_by_part answer)) (record { went = omega (arith, hand_back s) })
+
+behind_word-agrees : (r1 r2 : Rules) (symbol : ℕ) (w : Word) (m : ℕ) (s : Machine) → 1 ≤ weight s.front → 64 * left s + 1 ≤ m → Below r1 r2 m
+    → Agree (part_behind_by r1 (front.Word symbol w) s) (part_behind_by r2 (front.Word symbol w) s) (λ answer. FewerBy (left s) (used_by_part answer))
+behind_word-agrees r1 r2 symbol word.LeftBracket m s e c h =
+    agree-then (next_expression-agrees r1 r2 m s (omega arith) h) (λ v t p.
+    bracket_behind-agrees symbol v t.front (left s) t (omega (arith, p.went)))
+behind_word-agrees r1 r2 symbol w m s e c h = ends_behind-agrees s
+
+part_behind-agrees : (r1 r2 : Rules) (x : Front) (m : ℕ) (s : Machine) → weight x ≤ weight s.front → 64 * left s + 1 ≤ m → Below r1 r2 m
+    → Agree (part_behind_by r1 x s) (part_behind_by r2 x s) (λ answer. FewerBy (left s) (used_by_part answer))
+part_behind-agrees r1 r2 (front.Tag symbol) m s e c h = part_used-agrees (part.Sym symbol) (left s) s (omega arith)
+part_behind-agrees r1 r2 (front.Internal symbol k) m s e c h = part_used-agrees (part.Sym symbol) (left s) s (omega arith)
+part_behind-agrees r1 r2 (front.Number n) m s e c h = part_used-agrees (part.Sub n) (left s) s (omega arith)
+part_behind-agrees r1 r2 (front.Word symbol w) m s e c h = behind_word-agrees r1 r2 symbol w m s e c h
+part_behind-agrees r1 r2 x m s e c h = ends_behind-agrees s
+
+behind_on-agrees : (r1 r2 : Rules) (count : ℕ) (parts : List Part) (p : Option Part) (b m : ℕ) (t : Machine) → left t + used_by_part p ≤ b → 64 * b + 1 ≤ m
+    → Below r1 r2 m → Agree (behind_on r1 count parts p t) (behind_on r2 count parts p t) (λ answer. Fewer b)
+behind_on-agrees r1 r2 count parts None b m t q c h = given parts t (λ answer. Fewer b) (record { went = omega arith })
+behind_on-agrees r1 r2 count parts (Some p) b m t q c h =
+    agree-then (room-agrees (count + length parts) t) (λ room u a.
+    agree-then (h.at NextFront u (omega arith)) (λ next w e.
+    weaker (h.at (SuffixBehind count (parts ++ p ∷ [])) w (omega arith)) (λ answer y d. record { went = omega arith })))
+
+suffix_behind-agrees : (r1 r2 : Rules) (count : ℕ) (parts : List Part) (s : Machine) → Below r1 r2 (measure (SuffixBehind count parts) s)
+    → Agree (suffix_behind r1 count parts s) (suffix_behind r2 count parts s) (λ answer. Fewer (left s))
+suffix_behind-agrees r1 r2 count parts s h =
+    agree-then (part_behind-agrees r1 r2 s.front _ s (omega arith) (omega arith) h) (λ p t q.
+    behind_on-agrees r1 r2 count parts p (left s) _ t q.went (omega arith) h)
+
+called_named-agrees : (r1 r2 : Rules) (symbol : ℕ) (parts behind : List Part) (k : Macro) (m : ℕ) (s : Machine) → 64 * coming s + 13 < m → Below r1 r2 m
+    → Agree (called_named r1 symbol parts behind k s) (called_named r2 symbol parts behind k s) (λ answer. Fewer (coming s))
+called_named-agrees r1 r2 symbol parts behind k m s c h =
+    agree-then (call_on-agrees r1 r2 k (called_with symbol parts behind) m s c h) (λ on t p. given named.Called t (λ answer. Fewer (coming s)) (record { went = p.went }))
+
+called_by-agrees : (r1 r2 : Rules) (symbol : ℕ) (parts : List Part) (k : Macro) (l : Level) (m : ℕ) (s : Machine) → 64 * coming s + 13 < m → Below r1 r2 m
+    → Agree (called_by r1 symbol parts k l s) (called_by r2 symbol parts k l s) (λ answer. Fewer (coming s))
+called_by-agrees r1 r2 symbol parts k level.Suffixed m s c h =
+    agree-then (h.at NextFront s (omega arith)) (λ next t p.
+    agree-then (h.at (SuffixBehind (length parts) []) t (omega (arith, p.went))) (λ behind u q.
+    weaker (called_named-agrees r1 r2 symbol parts behind k m u (omega (arith, p.went, q.went)) h) (λ answer w e. record { went = omega (arith, p.went, q.went, e.went) })))
+called_by-agrees r1 r2 symbol parts k l m s c h = called_named-agrees r1 r2 symbol parts [] k m s c h
+
+name_from_by-agrees : (r1 r2 : Rules) (symbol root : ℕ) (parts : List Part) (k : Option Macro) (m : ℕ) (s : Machine) → 64 * coming s + 14 ≤ m → Below r1 r2 m
     → Agree (name_from_by r1 symbol root parts k s) (name_from_by r2 symbol root parts k s) (λ answer. Fewer (coming s))
 name_from_by-agrees r1 r2 symbol root parts (Some k) m s c h = called_by-agrees r1 r2 symbol parts k k.level m s (omega arith) h
 name_from_by-agrees r1 r2 symbol root parts None m s c h =
@@ -356,7 +460,7 @@ begun_anew-agrees : (r1 r2 : Rules) (v : Option Value) (m : ℕ) (s : Machine) �
 begun_anew-agrees r1 r2 (Some v) m s c h = given v s (λ answer. Fewer (left s)) (record { went = omega arith })
 begun_anew-agrees r1 r2 None m s c h = h.at PrimaryInside s (omega arith)
 
-variable-agrees : (r1 r2 : Rules) (symbol : ℕ) (m : ℕ) (s : Machine) → 64 * coming s + 3 < m → Below r1 r2 m
+variable-agrees : (r1 r2 : Rules) (symbol : ℕ) (m : ℕ) (s : Machine) → 64 * coming s + 15 < m → Below r1 r2 m
     → Agree (variable r1 symbol s) (variable r2 symbol s) (λ answer. Fewer (coming s))
 variable-agrees r1 r2 symbol m s c h =
     agree-then {P = λ v. Fewer (coming s)} (agree-then (h.at (VariableName symbol) s (omega arith)) (λ name t p.
@@ -371,7 +475,7 @@ closed_by-agrees : (pair : Delimiters) (x : Front) (s : Machine) → Agree (clos
 closed_by-agrees pair (front.Right symbol other) s = closed_if-agrees (are_pair pair other) pair s
 closed_by-agrees pair x s = stopped (refused_front (symbol_name s.acts pair.right) s) s (λ answer. AsMany s) tt
 
-parenthesis-agrees : (r1 r2 : Rules) (pair : Delimiters) (m : ℕ) (s : Machine) → 64 * coming s + 9 < m → Below r1 r2 m
+parenthesis-agrees : (r1 r2 : Rules) (pair : Delimiters) (m : ℕ) (s : Machine) → 64 * coming s + 11 < m → Below r1 r2 m
     → Agree (parenthesis r1 pair s) (parenthesis r2 pair s) (λ answer. Fewer (coming s))
 parenthesis-agrees r1 r2 pair m s c h =
     agree-then (next_expression-agrees r1 r2 m s c h) (λ v u q.
@@ -511,6 +615,7 @@ secondary_weight front.Capsule op e = omega arith
 secondary_weight (front.Word symbol w) op e = omega arith
 secondary_weight (front.Tag symbol) op e = omega arith
 secondary_weight (front.Internal symbol k) op e = omega arith
+secondary_weight (front.Operator symbol) op e = omega arith
 secondary_weight (front.Left symbol pair) op e = omega arith
 secondary_weight (front.Right symbol pair) op e = omega arith
 secondary_weight front.EndOfText op e = cc
@@ -522,39 +627,94 @@ tertiary_weight front.Capsule op e = omega arith
 tertiary_weight (front.Word symbol w) op e = omega arith
 tertiary_weight (front.Tag symbol) op e = omega arith
 tertiary_weight (front.Internal symbol k) op e = omega arith
+tertiary_weight (front.Operator symbol) op e = omega arith
 tertiary_weight (front.Left symbol pair) op e = omega arith
 tertiary_weight (front.Right symbol pair) op e = omega arith
 tertiary_weight front.EndOfText op e = cc
 
-secondary_by-agrees : (r1 r2 : Rules) (v : Value) (op : Option SecondaryOperator) (m : ℕ) (s : Machine) → secondary_in s.front ≡ op → 64 * left s + 5 ≤ m
-    → Below r1 r2 m → Agree (secondary_by r1 v op s) (secondary_by r2 v op s) (λ answer. Fewer (left s))
-secondary_by-agrees r1 r2 v (Some op) m s e c h =
+operator_weight : (table : Table) (l : Level) (x : Front) (k : Macro) → operator_in table l x ≡ Some k → 1 ≤ weight x
+operator_weight table l (front.Number n) k e = omega arith
+operator_weight table l front.Text k e = omega arith
+operator_weight table l front.Capsule k e = omega arith
+operator_weight table l (front.Word symbol w) k e = omega arith
+operator_weight table l (front.Tag symbol) k e = omega arith
+operator_weight table l (front.Internal symbol i) k e = omega arith
+operator_weight table l (front.Operator symbol) k e = omega arith
+operator_weight table l (front.Left symbol pair) k e = omega arith
+operator_weight table l (front.Right symbol pair) k e = omega arith
+operator_weight table l front.EndOfText k e = cc
+
+joined-agrees : (r1 r2 : Rules) (k : Macro) (a b : Value) (m : ℕ) (s : Machine) → 64 * left s + 13 < m → Below r1 r2 m
+    → Agree (joined r1 k a b s) (joined r2 k a b s) (λ next. Fewer (left s))
+joined-agrees r1 r2 k a b m s c h =
+    agree-then (put_back-agrees s) (λ back t p.
+    weaker (call_on-agrees r1 r2 k (capsule a ∷ capsule b ∷ []) m t (omega (arith, p.went)) h) (λ next u q. record { went = omega (arith, p.went, q.went) }))
+
+secondary_by-agrees : (r1 r2 : Rules) (v : Value) (op : Option SecondaryOperator) (k : Option Macro) (m : ℕ) (s : Machine) → secondary_in s.front ≡ op
+    → operator_here level.Primary s ≡ k → 64 * left s + 5 ≤ m → Below r1 r2 m
+    → Agree (secondary_by r1 v op k s) (secondary_by r2 v op k s) (λ answer. Fewer (left s))
+secondary_by-agrees r1 r2 v (Some op) k m s e f c h =
     let used : 1 ≤ weight s.front = secondary_weight s.front op e in
     agree-then (next_primary-agrees r1 r2 m s (omega arith) h) (λ right t p.
     agree-then (acted (act.secondary op v right t.acts) t) (λ both u q.
     weaker (h.at (SecondaryRest both) u (omega arith)) (λ answer w a. record { went = omega arith })))
-secondary_by-agrees r1 r2 v None m s e c h = given v s (λ answer. Fewer (left s)) (record { went = omega arith })
+secondary_by-agrees r1 r2 v None (Some k) m s e f c h =
+    let used : 1 ≤ weight s.front = operator_weight s.acts.symbols.names level.Primary s.front k f in
+    agree-then (next_primary-agrees r1 r2 m s (omega arith) h) (λ right t p.
+    agree-then (joined-agrees r1 r2 k v right m t (omega (arith, p.went)) h) (λ on u q.
+    agree-then (h.at Primary u (omega (arith, p.went, q.went))) (λ first w a.
+    weaker (h.at (SecondaryRest first) w (omega (arith, p.went, q.went, a.went))) (λ answer y d. record { went = omega (arith, p.went, q.went, a.went, d.went) }))))
+secondary_by-agrees r1 r2 v None None m s e f c h = given v s (λ answer. Fewer (left s)) (record { went = omega arith })
 
 secondary-agrees : (r1 r2 : Rules) (s : Machine) → Below r1 r2 (measure Secondary s) → Agree (secondary r1 s) (secondary r2 s) (λ answer. Fewer (left s))
 secondary-agrees r1 r2 s h =
     agree-then (h.at Primary s (omega arith)) (λ v t p.
     weaker (h.at (SecondaryRest v) t (omega arith)) (λ answer u q. record { went = omega arith }))
 
-tertiary_by-agrees : (r1 r2 : Rules) (v : Value) (op : Option TertiaryOperator) (m : ℕ) (s : Machine) → tertiary_in s.front ≡ op → 64 * left s + 7 ≤ m
-    → Below r1 r2 m → Agree (tertiary_by r1 v op s) (tertiary_by r2 v op s) (λ answer. Fewer (left s))
-tertiary_by-agrees r1 r2 v (Some op) m s e c h =
-    let used : 1 ≤ weight s.front = tertiary_weight s.front op e in
+next_secondary-agrees : (r1 r2 : Rules) (m : ℕ) (s : Machine) → 64 * coming s + 6 < m → Below r1 r2 m
+    → Agree (next_secondary r1 s) (next_secondary r2 s) (λ answer. Fewer (coming s))
+next_secondary-agrees r1 r2 m s c h =
     agree-then (h.at NextFront s (omega arith)) (λ first t p.
-    agree-then (h.at Secondary t (omega arith)) (λ right u q.
-    agree-then (acted (act.tertiary op v right u.acts) u) (λ both w a.
-    weaker (h.at (TertiaryRest both) w (omega arith)) (λ answer y b. record { went = omega arith }))))
-tertiary_by-agrees r1 r2 v None m s e c h = given v s (λ answer. Fewer (left s)) (record { went = omega arith })
+    weaker (h.at Secondary t (omega arith)) (λ v u q. record { went = omega arith }))
+
+tertiary_by-agrees : (r1 r2 : Rules) (v : Value) (op : Option TertiaryOperator) (k : Option Macro) (m : ℕ) (s : Machine) → tertiary_in s.front ≡ op
+    → operator_here level.Secondary s ≡ k → 64 * left s + 7 ≤ m → Below r1 r2 m
+    → Agree (tertiary_by r1 v op k s) (tertiary_by r2 v op k s) (λ answer. Fewer (left s))
+tertiary_by-agrees r1 r2 v (Some op) k m s e f c h =
+    let used : 1 ≤ weight s.front = tertiary_weight s.front op e in
+    agree-then (next_secondary-agrees r1 r2 m s (omega arith) h) (λ right t p.
+    agree-then (acted (act.tertiary op v right t.acts) t) (λ both u q.
+    weaker (h.at (TertiaryRest both) u (omega arith)) (λ answer w a. record { went = omega arith })))
+tertiary_by-agrees r1 r2 v None (Some k) m s e f c h =
+    let used : 1 ≤ weight s.front = operator_weight s.acts.symbols.names level.Secondary s.front k f in
+    agree-then (next_secondary-agrees r1 r2 m s (omega arith) h) (λ right t p.
+    agree-then (joined-agrees r1 r2 k v right m t (omega (arith, p.went)) h) (λ on u q.
+    agree-then (h.at Secondary u (omega (arith, p.went, q.went))) (λ first w a.
+    weaker (h.at (TertiaryRest first) w (omega (arith, p.went, q.went, a.went))) (λ answer y d. record { went = omega (arith, p.went, q.went, a.went, d.went) }))))
+tertiary_by-agrees r1 r2 v None None m s e f c h = given v s (λ answer. Fewer (left s)) (record { went = omega arith })
+
+tertiary-agrees : (r1 r2 : Rules) (s : Machine) → Below r1 r2 (measure Tertiary s) → Agree (tertiary r1 s) (tertiary r2 s) (λ answer. Fewer (left s))
+tertiary-agrees r1 r2 s h =
+    agree-then (h.at Secondary s (omega arith)) (λ v t p.
+    weaker (h.at (TertiaryRest v) t (omega arith)) (λ answer u q. record { went = omega arith }))
+
+expression_by-agrees : (r1 r2 : Rules) (v : Value) (k : Option Macro) (m : ℕ) (s : Machine) → operator_here level.Tertiary s ≡ k → 64 * left s + 9 ≤ m
+    → Below r1 r2 m → Agree (expression_by r1 v k s) (expression_by r2 v k s) (λ answer. Fewer (left s))
+expression_by-agrees r1 r2 v (Some k) m s f c h =
+    let used : 1 ≤ weight s.front = operator_weight s.acts.symbols.names level.Tertiary s.front k f in
+    agree-then (h.at NextFront s (omega arith)) (λ next t p.
+    agree-then (h.at Tertiary t (omega (arith, p.went))) (λ right u q.
+    agree-then (joined-agrees r1 r2 k v right m u (omega (arith, p.went, q.went)) h) (λ on w a.
+    agree-then (h.at Tertiary w (omega (arith, p.went, q.went, a.went))) (λ first y d.
+    weaker (h.at (ExpressionRest first) y (omega (arith, p.went, q.went, a.went, d.went))) (λ answer z i. record { went = omega (arith, p.went, q.went, a.went, d.went, i.went) })))))
+expression_by-agrees r1 r2 v None m s f c h = given v s (λ answer. Fewer (left s)) (record { went = omega arith })
 
 expression_from-agrees : (r1 r2 : Rules) (v : Value) (s : Machine) → Below r1 r2 (measure (ExpressionFrom v) s)
     → Agree (expression_from r1 v s) (expression_from r2 v s) (λ answer. Fewer (left s))
 expression_from-agrees r1 r2 v s h =
     agree-then (h.at (SecondaryRest v) s (omega arith)) (λ second t p.
-    weaker (h.at (TertiaryRest second) t (omega arith)) (λ answer u q. record { went = omega arith }))
+    agree-then (h.at (TertiaryRest second) t (omega arith)) (λ third u q.
+    weaker (h.at (ExpressionRest third) u (omega arith)) (λ answer w a. record { went = omega arith })))
 
 expression-agrees : (r1 r2 : Rules) (s : Machine) → Below r1 r2 (measure Expression s) → Agree (expression r1 s) (expression r2 s) (λ answer. Fewer (left s))
 expression-agrees r1 r2 s h =
@@ -563,7 +723,7 @@ expression-agrees r1 r2 s h =
 
 -- EQUATIONS AND ASSIGNMENTS
 
-side_from-agrees : (r1 r2 : Rules) (begun : Side) (m : ℕ) (s : Machine) → 64 * left s + 8 < m → Below r1 r2 m
+side_from-agrees : (r1 r2 : Rules) (begun : Side) (m : ℕ) (s : Machine) → 64 * left s + 10 < m → Below r1 r2 m
     → Agree (side_from r1 begun s) (side_from r2 begun s) (λ answer. FewerBy (left s + used_by_side begun) (used_by_side answer))
 side_from-agrees r1 r2 (side.Target to) m s c h = given (side.Target to) s (λ answer. FewerBy (left s + 1) (used_by_side answer)) (record { went = omega arith })
 side_from-agrees r1 r2 (side.Value v) m s c h =
@@ -577,7 +737,7 @@ chain_side-agrees r1 r2 s h =
     weaker (side_from-agrees r1 r2 begun _ t (omega arith) h) (λ answer u q. record { went = omega arith }))
 
 -- a front was used for the last side, or the sign behind it is one
-chain_on-agrees : (r1 r2 : Rules) (before : List Side) (b m : ℕ) (s : Machine) → coming s + 1 ≤ b → 64 * b + 10 ≤ m → Below r1 r2 m
+chain_on-agrees : (r1 r2 : Rules) (before : List Side) (b m : ℕ) (s : Machine) → coming s + 1 ≤ b → 64 * b + 12 ≤ m → Below r1 r2 m
     → Agree (chain_on r1 before s) (chain_on r2 before s) (λ answer. Fewer b)
 chain_on-agrees r1 r2 before b m s e c h =
     agree-then (h.at NextFront s (omega arith)) (λ next t q.
@@ -589,14 +749,14 @@ chain_end-agrees before v s =
     agree-then (acted (settle before v s.acts) s) (λ done t e.
     given (lone_or_vacuous before v) t (λ answer. Fewer (left s)) (record { went = omega arith }))
 
-value_word-agrees : (r1 r2 : Rules) (before : List Side) (v : Value) (symbol : ℕ) (w : Word) (m : ℕ) (s : Machine) → 1 ≤ weight s.front → 64 * left s + 10 ≤ m
+value_word-agrees : (r1 r2 : Rules) (before : List Side) (v : Value) (symbol : ℕ) (w : Word) (m : ℕ) (s : Machine) → 1 ≤ weight s.front → 64 * left s + 12 ≤ m
     → Below r1 r2 m
     → Agree (chain_by r1 before (side.Value v) (front.Word symbol w) s) (chain_by r2 before (side.Value v) (front.Word symbol w) s) (λ answer. Fewer (left s))
 value_word-agrees r1 r2 before v symbol word.Equals m s e c h = chain_on-agrees r1 r2 (side.Value v ∷ before) (left s) m s (omega arith) c h
 value_word-agrees r1 r2 before v symbol w m s e c h = chain_end-agrees before v s
 
 chain_by-agrees : (r1 r2 : Rules) (before : List Side) (last : Side) (x : Front) (m : ℕ) (s : Machine) → weight x ≤ weight s.front
-    → 64 * (left s + used_by_side last) + 10 ≤ m → Below r1 r2 m
+    → 64 * (left s + used_by_side last) + 12 ≤ m → Below r1 r2 m
     → Agree (chain_by r1 before last x s) (chain_by r2 before last x s) (λ answer. Fewer (left s + used_by_side last))
 chain_by-agrees r1 r2 before (side.Target to) x m s e c h = chain_on-agrees r1 r2 (side.Target to ∷ before) (left s + 1) m s (omega arith) c h
 chain_by-agrees r1 r2 before (side.Value v) (front.Word symbol w) m s e c h = weaker (value_word-agrees r1 r2 before v symbol w m s e (omega arith) h) (λ answer t p. record { went = omega arith })
@@ -735,7 +895,7 @@ assign_sign-agrees r1 r2 m s p h =
     agree-then (h.at NextFront s (omega arith)) (λ next t q.
     weaker (assign_in-agrees t.front t) (λ y u e. record { went = omega arith }))
 
-interim-agrees : (r1 r2 : Rules) (m : ℕ) (s : Machine) → 64 * coming s + 9 < m → Below r1 r2 m
+interim-agrees : (r1 r2 : Rules) (m : ℕ) (s : Machine) → 64 * coming s + 11 < m → Below r1 r2 m
     → Agree (interim_value r1 s) (interim_value r2 s) (λ answer. Fewer (coming s))
 interim-agrees r1 r2 m s c h =
     agree-then (internal_name-agrees r1 r2 m s (omega arith) h) (λ k t p.
@@ -743,7 +903,7 @@ interim-agrees r1 r2 m s c h =
     agree-then (next_expression-agrees r1 r2 m u (omega arith) h) (λ v y b.
     weaker (acted (interim k v y.acts) y) (λ done z e. record { went = omega arith }))))
 
-spoken-agrees : (r1 r2 : Rules) (speech : Speech) (m : ℕ) (s : Machine) → 64 * coming s + 9 < m → Below r1 r2 m
+spoken-agrees : (r1 r2 : Rules) (speech : Speech) (m : ℕ) (s : Machine) → 64 * coming s + 11 < m → Below r1 r2 m
     → Agree (spoken r1 speech s) (spoken r2 speech s) (λ answer. Fewer (coming s))
 spoken-agrees r1 r2 speech m s c h =
     agree-then (next_expression-agrees r1 r2 m s c h) (λ v u q.
@@ -799,12 +959,12 @@ definition-agrees w s =
 
 -- STATEMENTS
 
-chain_if-agrees : (r1 r2 : Rules) (begins : Bool) (m : ℕ) (s : Machine) → 64 * left s + 12 ≤ m → Below r1 r2 m
+chain_if-agrees : (r1 r2 : Rules) (begins : Bool) (m : ℕ) (s : Machine) → 64 * left s + 14 ≤ m → Below r1 r2 m
     → Agree (chain_if r1 begins s) (chain_if r2 begins s) (λ answer. Fewer (left s))
 chain_if-agrees r1 r2 true m s c h = h.at Chain s (omega arith)
 chain_if-agrees r1 r2 false m s c h = stopped (refused_front (codes "statement") s) s (λ answer. Fewer (left s)) tt
 
-statement_word-agrees : (r1 r2 : Rules) (symbol : ℕ) (w : Word) (m : ℕ) (s : Machine) → 1 ≤ weight s.front → 64 * left s + 12 ≤ m → Below r1 r2 m
+statement_word-agrees : (r1 r2 : Rules) (symbol : ℕ) (w : Word) (m : ℕ) (s : Machine) → 1 ≤ weight s.front → 64 * left s + 14 ≤ m → Below r1 r2 m
     → Agree (statement_by r1 (front.Word symbol w) s) (statement_by r2 (front.Word symbol w) s) (λ answer. Fewer (left s))
 statement_word-agrees r1 r2 symbol word.Semicolon m s e c h = given value.Vacuous s (λ answer. Fewer (left s)) (record { went = omega arith })
 statement_word-agrees r1 r2 symbol word.Endgroup m s e c h = given value.Vacuous s (λ answer. Fewer (left s)) (record { went = omega arith })
@@ -817,7 +977,7 @@ statement_word-agrees r1 r2 symbol (word.Definition w) m s e c h =
     given value.Vacuous t (λ answer. Fewer (left s)) (record { went = omega arith }))
 statement_word-agrees r1 r2 symbol w m s e c h = chain_if-agrees r1 r2 (begins_primary (front.Word symbol w)) m s c h
 
-statement_by-agrees : (r1 r2 : Rules) (x : Front) (m : ℕ) (s : Machine) → weight x ≤ weight s.front → 64 * left s + 12 ≤ m → Below r1 r2 m
+statement_by-agrees : (r1 r2 : Rules) (x : Front) (m : ℕ) (s : Machine) → weight x ≤ weight s.front → 64 * left s + 14 ≤ m → Below r1 r2 m
     → Agree (statement_by r1 x s) (statement_by r2 x s) (λ answer. Fewer (left s))
 statement_by-agrees r1 r2 (front.Word symbol w) m s e c h = statement_word-agrees r1 r2 symbol w m s e c h
 statement_by-agrees r1 r2 front.EndOfText m s e c h = given value.Vacuous s (λ answer. Fewer (left s)) (record { went = omega arith })
@@ -897,20 +1057,23 @@ pub case-agrees : (r1 r2 : Rules) (what : What) (s : Machine) → Below r1 r2 (m
 unfolding case
 case-agrees r1 r2 NextFront s h = next_front-agrees r1 r2 s (record { at = λ w t below. h.at w t (omega arith) })
 case-agrees r1 r2 NextRaw s h = next_raw-agrees r1 r2 s (record { at = λ w t below. h.at w t (omega arith) })
-case-agrees r1 r2 (Operand w) s h = operand-agrees r1 r2 w s h
+case-agrees r1 r2 (Asked w) s h = asked-agrees r1 r2 w s h
 case-agrees r1 r2 (NumberThen n) s h = then_by-agrees r1 r2 n s.front _ s (omega arith) (omega arith) h
 case-agrees r1 r2 (Factor v) s h = factor_by-agrees r1 r2 v (begins_factor s.front) _ s (omega arith) h
 case-agrees r1 r2 (VariableName symbol) s h = variable_name-agrees r1 r2 symbol s h
 case-agrees r1 r2 (NameFrom symbol root parts) s h = name_from_by-agrees r1 r2 symbol root parts (macro_named s.acts root parts) _ s (omega arith) h
 case-agrees r1 r2 (Suffix parts) s h = suffix-agrees r1 r2 parts s h
+case-agrees r1 r2 (SuffixBehind count parts) s h = suffix_behind-agrees r1 r2 count parts s h
 case-agrees r1 r2 Group s h = group-agrees r1 r2 s h
 case-agrees r1 r2 PrimaryInside s h = primary_by-agrees r1 r2 s.front _ s (omega arith) (omega arith) h
 case-agrees r1 r2 Primary s h = primary-agrees r1 r2 s h
 case-agrees r1 r2 LeadingInside s h = leading_by-agrees r1 r2 s.front _ s (omega arith) (omega arith) h
 case-agrees r1 r2 Leading s h = leading-agrees r1 r2 s h
-case-agrees r1 r2 (SecondaryRest v) s h = secondary_by-agrees r1 r2 v (secondary_in s.front) _ s refl (omega arith) h
+case-agrees r1 r2 (SecondaryRest v) s h = secondary_by-agrees r1 r2 v (secondary_in s.front) (operator_here level.Primary s) _ s refl refl (omega arith) h
 case-agrees r1 r2 Secondary s h = secondary-agrees r1 r2 s h
-case-agrees r1 r2 (TertiaryRest v) s h = tertiary_by-agrees r1 r2 v (tertiary_in s.front) _ s refl (omega arith) h
+case-agrees r1 r2 (TertiaryRest v) s h = tertiary_by-agrees r1 r2 v (tertiary_in s.front) (operator_here level.Secondary s) _ s refl refl (omega arith) h
+case-agrees r1 r2 Tertiary s h = tertiary-agrees r1 r2 s h
+case-agrees r1 r2 (ExpressionRest v) s h = expression_by-agrees r1 r2 v (operator_here level.Tertiary s) _ s refl (omega arith) h
 case-agrees r1 r2 (ExpressionFrom v) s h = expression_from-agrees r1 r2 v s h
 case-agrees r1 r2 Expression s h = expression-agrees r1 r2 s h
 case-agrees r1 r2 ChainSide s h = chain_side-agrees r1 r2 s h

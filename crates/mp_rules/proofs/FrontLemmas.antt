@@ -7,7 +7,7 @@ use Rattle.mp_expand.specs.declared.step.Step.TheVariants as step
 use Rattle.mp_expand.specs.declared.step.Want.{Want}
 use Rattle.mp_rules.specs.Machine.{Machine, Outcome}
 use Rattle.mp_rules.specs.Meaning.{the}
-use Rattle.mp_rules.specs.Rules.{NextFront, Operand, advancing, step_by, held_or_taken}
+use Rattle.mp_rules.specs.Rules.{NextFront, Asked, advancing, step_by, held_or_taken}
 use Rattle.mp_rules.proofs.Cases.{next_front_is}
 
 taken_is : (s : Machine) → s.held ≡ None → the NextFront s ≡ (then) (advancing s) (step_by the)
@@ -16,6 +16,6 @@ taken_is s free = next_front_is s ∙ ap (λ (held : Option Front). held_or_take
 pub next_more : (s t : Machine) → s.held ≡ None → advancing s ≡ Ok (step.More, t) → the NextFront s ≡ the NextFront t
 next_more s t free e = taken_is s free ∙ ap (λ (o : Outcome Step). (then) o (step_by the)) e
 
-pub next_wanted : (s t u : Machine) (w : Want) → s.held ≡ None → advancing s ≡ Ok (step.Want w, t) → the (Operand w) t ≡ Ok (tt, u) → the NextFront s ≡ the NextFront u
+pub next_wanted : (s t u : Machine) (w : Want) → s.held ≡ None → advancing s ≡ Ok (step.Want w, t) → the (Asked w) t ≡ Ok (tt, u) → the NextFront s ≡ the NextFront u
 next_wanted s t u w free e served =
     taken_is s free ∙ ap (λ (o : Outcome Step). (then) o (step_by the)) e ∙ ap (λ (o : Outcome (Unit {0})). (then) o (λ done. the NextFront)) served

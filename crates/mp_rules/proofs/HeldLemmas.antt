@@ -17,21 +17,26 @@ use Rattle.mp_values.specs.declared.turn.Pending.TheVariants as pending
 use Rattle.mp_acts.specs.Counts.{Counts, most, greatest, IsWithin}
 use Rattle.mp_acts.specs.Reach.{reach, reach_of_item, reach_of_macro, reach_of_meaning, reach_of_pair, one_symbol, one_internal}
 use Rattle.mp_expand.specs.Expansion.{Expansion, IsWhole, LosesFirst, IsLeft}
-use Rattle.mp_expand.specs.Steps.{take_first}
+use Rattle.mp_expand.specs.Steps.{take_first, put_back}
 use Rattle.mp_expand.specs.Calls.{call}
 use Rattle.mp_expand.specs.Advance.{advance, answered, items_of}
 use Rattle.mp_expand.specs.Fronts.{Table}
-use Rattle.mp_expand.specs.Holds.{Holds, HoldsLeftOver, HoldsPending, HoldsFirst, HoldsPair, HoldsNeed, HoldsRequest, HoldsMeaning, HoldsTable, HoldsFront, HoldsStep, HoldsAfter}
+use Rattle.mp_expand.specs.Holds.{Holds, HoldsLeftOver, HoldsPending, HoldsFirst, HoldsPair, HoldsBehind, HoldsUntil, HoldsNeed, HoldsCall, HoldsRequest, HoldsMeaning, HoldsTable, HoldsFront, HoldsStep, HoldsAfter}
 use Rattle.mp_expand.specs.declared.front.Front.{Front}
 use Rattle.mp_expand.specs.declared.front.Front.TheVariants as front
+use Rattle.mp_expand.specs.declared.request.Behind.{Behind}
+use Rattle.mp_expand.specs.declared.request.Behind.TheVariants as behind
+use Rattle.mp_expand.specs.declared.request.Call.{Call}
 use Rattle.mp_expand.specs.declared.request.Need.{Need}
 use Rattle.mp_expand.specs.declared.request.Need.TheVariants as need
 use Rattle.mp_expand.specs.declared.request.Request.{Request}
+use Rattle.mp_expand.specs.declared.request.Until.{Until}
+use Rattle.mp_expand.specs.declared.request.Until.TheVariants as until
 use Rattle.mp_expand.specs.declared.step.Answer.{Answer}
 use Rattle.mp_expand.specs.declared.step.Step.{Step}
 use Rattle.mp_expand.specs.declared.step.Step.TheVariants as step
 use Rattle.mp_expand.proofs.HoldsLemmas.{invents_nothing}
-use Rattle.mp_rules.specs.Reach.{reach_of_left_over, reach_of_pending, reach_of_text, reach_of_first, reach_of_need, reach_of_request, reach_of_expansion, reach_of_front, reach_of_step}
+use Rattle.mp_rules.specs.Reach.{reach_of_left_over, reach_of_pending, reach_of_text, reach_of_first, reach_of_behind, reach_of_until, reach_of_need, reach_of_call, reach_of_request, reach_of_expansion, reach_of_front, reach_of_step}
 use Rattle.mp_rules.proofs.ReachLemmas.{first_within, none_in, both_within}
 
 first_of : (a b n : Counts) → IsWithin (most a b) n → IsWithin a n
@@ -134,32 +139,58 @@ module _ (n : Counts) where
   pair_within : (pair : Delimiters) → HoldsPair There IsInternal pair → IsWithin (reach_of_pair pair) n
   pair_within pair h = both_within (one_symbol pair.left) (one_symbol pair.right) n h.0 h.1
 
+  behind_there : (b : Behind) → IsWithin (reach_of_behind b) n → HoldsBehind There IsInternal b
+  behind_there (behind.Delimiter pair) h = pair_there pair h
+  behind_there behind.Of h = tt
+  behind_there behind.Anything h = tt
+
+  behind_within : (b : Behind) → HoldsBehind There IsInternal b → IsWithin (reach_of_behind b) n
+  behind_within (behind.Delimiter pair) h = pair_within pair h
+  behind_within behind.Of h = none_in n
+  behind_within behind.Anything h = none_in n
+
+  until_there : (u : Until) → IsWithin (reach_of_until u) n → HoldsUntil There IsInternal u
+  until_there (until.Delimiter pair) h = pair_there pair h
+  until_there until.Statement h = tt
+
+  until_within : (u : Until) → HoldsUntil There IsInternal u → IsWithin (reach_of_until u) n
+  until_within (until.Delimiter pair) h = pair_within pair h
+  until_within until.Statement h = none_in n
+
   need_there : (x : Need) → IsWithin (reach_of_need x) n → HoldsNeed There IsInternal x
   need_there (need.Opening k) h = tt
-  need_there (need.Answer pair) h = pair_there pair h
-  need_there (need.Text pair depth) h = pair_there pair h
+  need_there (need.Answer b) h = behind_there b h
+  need_there (need.Text u depth) h = until_there u h
 
   need_within : (x : Need) → HoldsNeed There IsInternal x → IsWithin (reach_of_need x) n
   need_within (need.Opening k) h = none_in n
-  need_within (need.Answer pair) h = pair_within pair h
-  need_within (need.Text pair depth) h = pair_within pair h
+  need_within (need.Answer b) h = behind_within b h
+  need_within (need.Text u depth) h = until_within u h
 
-  request_there : (r : Request) → IsWithin (reach_of_request r) n → HoldsRequest There IsInternal r
-  request_there r h =
-      let front_part = first_of (most (reach_of_macro r.called) (greatest (greatest reach_of_item) r.got)) (most (greatest reach_of_item r.text) (reach_of_need r.need)) n h in
-      let back_part = second_of (most (reach_of_macro r.called) (greatest (greatest reach_of_item) r.got)) (most (greatest reach_of_item r.text) (reach_of_need r.need)) n h in
+  call_there : (c : Call) → IsWithin (reach_of_call c) n → HoldsCall There IsInternal c
+  call_there c h =
+      let called = most (reach_of_macro c.called) (greatest (greatest reach_of_item) c.got) in
+      let front_part = first_of called (greatest reach_of_item c.text) n h in
       record {
-        body = items_there r.called.body (first_of (reach_of_macro r.called) (greatest (greatest reach_of_item) r.got) n front_part);
-        got = lists_there r.got (second_of (reach_of_macro r.called) (greatest (greatest reach_of_item) r.got) n front_part);
-        text = items_there r.text (first_of (greatest reach_of_item r.text) (reach_of_need r.need) n back_part);
-        need = need_there r.need (second_of (greatest reach_of_item r.text) (reach_of_need r.need) n back_part);
+        body = items_there c.called.body (first_of (reach_of_macro c.called) (greatest (greatest reach_of_item) c.got) n front_part);
+        got = lists_there c.got (second_of (reach_of_macro c.called) (greatest (greatest reach_of_item) c.got) n front_part);
+        text = items_there c.text (second_of called (greatest reach_of_item c.text) n h);
       }
 
+  call_within : (c : Call) → HoldsCall There IsInternal c → IsWithin (reach_of_call c) n
+  call_within c h =
+      both_within (most (reach_of_macro c.called) (greatest (greatest reach_of_item) c.got)) (greatest reach_of_item c.text) n
+      (both_within (reach_of_macro c.called) (greatest (greatest reach_of_item) c.got) n (items_within c.called.body h.body) (lists_within c.got h.got))
+      (items_within c.text h.text)
+
+  request_there : (r : Request) → IsWithin (reach_of_request r) n → HoldsRequest There IsInternal r
+  request_there r h = record {
+    call = call_there r.call (first_of (reach_of_call r.call) (reach_of_need r.need) n h);
+    need = need_there r.need (second_of (reach_of_call r.call) (reach_of_need r.need) n h);
+  }
+
   request_within : (r : Request) → HoldsRequest There IsInternal r → IsWithin (reach_of_request r) n
-  request_within r h =
-      both_within (most (reach_of_macro r.called) (greatest (greatest reach_of_item) r.got)) (most (greatest reach_of_item r.text) (reach_of_need r.need)) n
-      (both_within (reach_of_macro r.called) (greatest (greatest reach_of_item) r.got) n (items_within r.called.body h.body) (lists_within r.got h.got))
-      (both_within (greatest reach_of_item r.text) (reach_of_need r.need) n (items_within r.text h.text) (need_within r.need h.need))
+  request_within r h = both_within (reach_of_call r.call) (reach_of_need r.need) n (call_within r.call h.call) (need_within r.need h.need)
 
   requests_there : (rs : List Request) → IsWithin (greatest reach_of_request rs) n → All (HoldsRequest There IsInternal) rs
   requests_there [] h = All-nil (HoldsRequest There IsInternal)
@@ -217,6 +248,7 @@ module _ (n : Counts) where
   front_given (front.Word symbol w) h = h
   front_given (front.Tag symbol) h = h
   front_given (front.Internal symbol k) h = both_within (one_symbol symbol) (one_internal k) n h.0 (internal_within k h.1)
+  front_given (front.Operator symbol) h = h
   front_given (front.Left symbol pair) h = both_within (one_symbol symbol) (reach_of_pair pair) n h.0 (pair_within pair h.1)
   front_given (front.Right symbol pair) h = both_within (one_symbol symbol) (reach_of_pair pair) n h.0 (pair_within pair h.1)
   front_given front.EndOfText h = none_in n
@@ -277,12 +309,18 @@ module _ (n : Counts) where
         given_by reach_of_step (HoldsStep There IsInternal) result t (answered table a x s) gives step_given holds,
       )
 
-  pub called_text_within : (m : Macro) (got : List (List Item)) (s t : Expansion) (result : Result (Unit {0}) Stop) → Yields result t (call m got s)
+  called_within : (m : Macro) (got : List (List Item)) (s t : Expansion) (result : Result Step Stop) → Yields result t (call m got s)
       → IsWhole result s t → IsWithin (reach_of_macro m) n → IsWithin (greatest (greatest reach_of_item) got) n → IsWithin (reach_of_expansion s) n
-      → IsWithin (reach_of_expansion t) n
-  called_text_within m got s t result gives whole body arguments h =
-      left_by (λ called. ⊤) result s t (call m got s) gives (whole_left result s t whole)
-      ((invents_nothing There IsInternal).called m got s (items_there m.body body) (lists_there got arguments) (there s h)) h
+      → IsWithin (reach_of_expansion t) n × IfOk result (λ x. IsWithin (reach_of_step x) n)
+  called_within m got s t result gives whole body arguments h =
+      let holds = (invents_nothing There IsInternal).called m got s (items_there m.body body) (lists_there got arguments) (there s h) in (
+        left_by (HoldsStep There IsInternal) result s t (call m got s) gives (whole_left result s t whole) holds h,
+        given_by reach_of_step (HoldsStep There IsInternal) result t (call m got s) gives step_given holds,
+      )
+
+  -- an item that is put back speaks of what there is
+  pub back_within : (x : Item) (s : Expansion) → IsWithin (reach_of_item x) n → IsWithin (reach_of_expansion s) n → IsWithin (reach_of_expansion (put_back x s)) n
+  back_within x s hx h = within (put_back x s) ((invents_nothing There IsInternal).put_back x s hx (there s h))
 
   pub same_within : (s t : Expansion) → t.text ≡ s.text → t.requests ≡ s.requests → IsWithin (reach_of_expansion s) n → IsWithin (reach_of_expansion t) n
   same_within s t text requests h = rw (text, requests) h
@@ -311,3 +349,13 @@ module _ (n : Counts) where
   pub answered_given : (table : Table) (a : Answer) (x : Front) (s t : Expansion) (result : Result Step Stop) → Yields result t (answered table a x s)
       → LosesFirst result s t → IsWithin (greatest reach_of_item (items_of a)) n → IsWithin (reach_of_expansion s) n → IfOk result (λ x. IsWithin (reach_of_step x) n)
   answered_given table a x s t result gives lost answer h = (answered_within n table a x s t result gives lost answer h).1
+
+  pub called_text : (m : Macro) (got : List (List Item)) (s t : Expansion) (result : Result Step Stop) → Yields result t (call m got s)
+      → IsWhole result s t → IsWithin (reach_of_macro m) n → IsWithin (greatest (greatest reach_of_item) got) n → IsWithin (reach_of_expansion s) n
+      → IsWithin (reach_of_expansion t) n
+  called_text m got s t result gives whole body arguments h = (called_within n m got s t result gives whole body arguments h).0
+
+  pub called_given : (m : Macro) (got : List (List Item)) (s t : Expansion) (result : Result Step Stop) → Yields result t (call m got s)
+      → IsWhole result s t → IsWithin (reach_of_macro m) n → IsWithin (greatest (greatest reach_of_item) got) n → IsWithin (reach_of_expansion s) n
+      → IfOk result (λ x. IsWithin (reach_of_step x) n)
+  called_given m got s t result gives whole body arguments h = (called_within n m got s t result gives whole body arguments h).1

@@ -11,7 +11,7 @@ use Rattle.mp_acts.specs.Reach.{reach, reach_of_item, reach_of_part, one_symbol}
 use Rattle.mp_expand.specs.Advance.{items_of}
 use Rattle.mp_expand.specs.declared.step.Answer.{Answer}
 use Rattle.mp_expand.specs.declared.step.Answer.TheVariants as answer
-use Rattle.mp_rules.specs.Rules.{item_of_part, name_items, called_with}
+use Rattle.mp_rules.specs.Rules.{item_of_part, name_items, called_with, capsule}
 use Rattle.mp_rules.proofs.ReachLemmas.{first_within, none_in, both_within, take_within, drop_within}
 
 -- a value in place of an expression speaks of what the value does
@@ -36,21 +36,25 @@ name_within : (n : Counts) (symbol : ℕ) (parts : List Part) → IsWithin (one_
 unfolding greatest
 name_within n symbol parts a b = both_within (one_symbol symbol) (greatest reach_of_item (map item_of_part parts)) n a (parts_within n parts b)
 
-three_within : (n : Counts) (a b : List Item) → IsWithin (greatest reach_of_item a) n → IsWithin (greatest reach_of_item b) n
-    → IsWithin (greatest (greatest reach_of_item) (a ∷ b ∷ [] ∷ [])) n
-unfolding greatest
-three_within n a b h k =
-    both_within (greatest reach_of_item a) _ n h (both_within (greatest reach_of_item b) _ n k (both_within nothing nothing n (none_in n) (none_in n)))
-
 symbol_within : (n : Counts) (symbol : ℕ) → symbol < n.symbols → IsWithin (one_symbol symbol) n
 symbol_within n symbol h = record { unknowns = omega arith; slots = omega arith; symbols = omega (arith, h); internals = omega arith }
 
-of_name_within : (n : Counts) (symbol : ℕ) (parts : List Part) → symbol < n.symbols → IsWithin (greatest reach_of_part parts) n
-    → IsWithin (greatest (greatest reach_of_item) (called_with symbol parts)) n
-of_name_within n symbol parts a b =
+-- arguments of calls, one after the other
+one_more : (n : Counts) (a : List Item) (more : List (List Item)) → IsWithin (greatest reach_of_item a) n → IsWithin (greatest (greatest reach_of_item) more) n
+    → IsWithin (greatest (greatest reach_of_item) (a ∷ more)) n
+unfolding greatest
+one_more n a more h k = both_within (greatest reach_of_item a) (greatest (greatest reach_of_item) more) n h k
+
+no_more : (n : Counts) → IsWithin (greatest (greatest reach_of_item) []) n
+unfolding greatest
+no_more n = none_in n
+
+of_name_within : (n : Counts) (symbol : ℕ) (parts behind : List Part) → symbol < n.symbols → IsWithin (greatest reach_of_part parts) n
+    → IsWithin (greatest reach_of_part behind) n → IsWithin (greatest (greatest reach_of_item) (called_with symbol parts behind)) n
+of_name_within n symbol parts behind a b h =
     let name = name_within n symbol parts (symbol_within n symbol a) b in
-    three_within n (take (length parts) (name_items symbol parts)) (drop (length parts) (name_items symbol parts))
-    (take_within reach_of_item n (length parts) (name_items symbol parts) name) (drop_within reach_of_item n (length parts) (name_items symbol parts) name)
+    one_more n _ _ (take_within reach_of_item n (length parts) (name_items symbol parts) name)
+    (one_more n _ _ (drop_within reach_of_item n (length parts) (name_items symbol parts) name) (one_more n _ [] (parts_within n behind h) (no_more n)))
 
 take_all : (xs ys : List Item) → take (length xs) (xs ++ ys) ≡ xs
 take_all [] ys = refl
@@ -68,16 +72,23 @@ length_map : (parts : List Part) → length (map item_of_part parts) ≡ length 
 length_map [] = refl
 length_map (p ∷ parts) = ap suc (length_map parts)
 
--- what stands before the last part, and that part
-pub split_at_last : (symbol : ℕ) (parts : List Part) (before : List Item) (last : Item) → before ++ last ∷ [] ≡ name_items symbol parts
-    → before ∷ (last ∷ []) ∷ [] ∷ [] ≡ called_with symbol parts
-split_at_last symbol parts before last e =
+-- what stands before the last part, that part, and what goes on behind it
+pub split_at_last : (symbol : ℕ) (parts : List Part) (before : List Item) (last : Item) (behind : List Item) → before ++ last ∷ [] ≡ name_items symbol parts
+    → before ∷ (last ∷ []) ∷ behind ∷ []
+    ≡ take (length parts) (name_items symbol parts) ∷ drop (length parts) (name_items symbol parts) ∷ behind ∷ []
+split_at_last symbol parts before last behind e =
     let count : length parts ≡ length before = omega (arith, length_last before last, length_map parts, ap length e) in
     rw (count, sym e, take_all before (last ∷ []), drop_all before (last ∷ [])) refl
 
-pub called_within : (n : Counts) (symbol : ℕ) (parts : List Part) (arguments : List (List Item)) → arguments ≡ called_with symbol parts → symbol < n.symbols
-    → IsWithin (greatest reach_of_part parts) n → IsWithin (greatest (greatest reach_of_item) arguments) n
-called_within n symbol parts arguments is a b = rw is (of_name_within n symbol parts a b)
+pub called_within : (n : Counts) (symbol : ℕ) (parts behind : List Part) (arguments : List (List Item)) → arguments ≡ called_with symbol parts behind
+    → symbol < n.symbols → IsWithin (greatest reach_of_part parts) n → IsWithin (greatest reach_of_part behind) n
+    → IsWithin (greatest (greatest reach_of_item) arguments) n
+called_within n symbol parts behind arguments is a b h = rw is (of_name_within n symbol parts behind a b h)
+
+pub operands_within : (n : Counts) (left right : Value) (arguments : List (List Item)) → arguments ≡ capsule left ∷ capsule right ∷ [] → IsWithin (reach left) n
+    → IsWithin (reach right) n → IsWithin (greatest (greatest reach_of_item) arguments) n
+operands_within n left right arguments is a b =
+    rw is (one_more n (capsule left) _ (capsule_within n left a) (one_more n (capsule right) [] (capsule_within n right b) (no_more n)))
 
 -- what is answered speaks of what the operand does
 pub value_within : (n : Counts) (v : Value) (a : Answer) → a ≡ answer.Value v → IsWithin (reach v) n → IsWithin (greatest reach_of_item (items_of a)) n

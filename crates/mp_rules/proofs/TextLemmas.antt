@@ -11,7 +11,7 @@ use Rattle.mp_expand.specs.Expansion.{Expansion}
 use Rattle.mp_expand.specs.Steps.{take_first, enter}
 use Rattle.mp_expand.specs.Calls.{call}
 use Rattle.mp_expand.specs.Advance.{advance, answered}
-use Rattle.mp_expand.specs.Laws.{cost, cost_of_first, Pays, IsFree, IsRefused, MayFollow}
+use Rattle.mp_expand.specs.Laws.{cost, cost_of_first, Pays, IsFree, IsRefused, GoesOn, MayFollow}
 use Rattle.mp_expand.specs.Laws.{IsSpent as IsSpentText}
 use Rattle.mp_expand.specs.declared.front.Front.{Front}
 use Rattle.mp_expand.specs.declared.front.Front.TheVariants as front
@@ -20,7 +20,7 @@ use Rattle.mp_expand.specs.declared.step.Step.{Step}
 use Rattle.mp_expand.specs.declared.step.Step.TheVariants as step
 use Rattle.mp_expand.proofs.CountLemmas.{counted}
 use Rattle.mp_rules.specs.Machine.{Machine, weight, coming, left, things}
-use Rattle.mp_rules.specs.Promises.{used_by_step, Took, Advances, Answers, Acts}
+use Rattle.mp_rules.specs.Promises.{used_by_step, Took, Advances, Answers, Calls, Acts}
 use Rattle.mp_rules.specs.Reach.{reach_of_first, reach_of_step}
 use Rattle.mp_rules.specs.Rules.{advancing}
 use Rattle.mp_rules.specs.Steps.{in_text, expanding, answering}
@@ -67,6 +67,7 @@ weight_used front.Capsule p = omega arith
 weight_used (front.Word symbol w) p = omega arith
 weight_used (front.Tag symbol) p = omega arith
 weight_used (front.Internal symbol k) p = omega arith
+weight_used (front.Operator symbol) p = omega arith
 weight_used (front.Left symbol pair) p = omega arith
 weight_used (front.Right symbol pair) p = omega arith
 weight_used front.EndOfText p = absurd (p refl)
@@ -131,7 +132,7 @@ as_many s t p = record { went = rw (p.steps, p.budget) refl; hand = refl }
 pub calls : (m : Macro) (got : List (List Item)) (s : Machine) → Agree (expanding (call m got) s) (expanding (call m got) s) (λ x. AsMany s)
 calls m got s = record {
   same = refl;
-  went = after_text (call m got s.expander) s _ (λ x. AsMany s) (freed (λ called. ⊤) s.expander (call m got s.expander) (counted.called m got s.expander)) (λ x t p. as_many s t p.same);
+  went = after_text (call m got s.expander) s _ (λ x. AsMany s) (freed GoesOn s.expander (call m got s.expander) (counted.called m got s.expander)) (λ x t p. as_many s t p.same);
 }
 
 pub entered : (s : Machine) → Agree (expanding enter s) (expanding enter s) (λ x. AsMany s)
@@ -212,25 +213,25 @@ answers_call a s t result gives kept given = record {
   within = given;
 }
 
-free_left : (result : Result (Unit {0}) Stop) (s : Machine) (t : Expansion)
-    → IfOk result (λ x. (t.budget ≡ s.expander.budget) × (t.steps ≡ s.expander.steps) × ⊤) → IfOk result (λ x. left (record s { expander = t }) + 0 ≤ left s)
-free_left (Ok x) s t p = omega (arith, p.0, p.1)
-free_left (Err made) s t p = tt
+free_left : {A : Type 0} (Q : A → Type 0) (result : Result A Stop) (s : Machine) (t : Expansion)
+    → IfOk result (λ x. (t.budget ≡ s.expander.budget) × (t.steps ≡ s.expander.steps) × Q x) → IfOk result (λ x. left (record s { expander = t }) + 0 ≤ left s)
+free_left Q (Ok x) s t p = omega (arith, p.0, p.1)
+free_left Q (Err made) s t p = tt
 
 nothing_given : (n : Counts) (result : Result (Unit {0}) Stop) → IfOk result (λ x. IsWithin nothing n)
 nothing_given n (Ok x) = record { unknowns = omega arith; slots = omega arith; symbols = omega arith; internals = omega arith }
 nothing_given n (Err made) = tt
 
 -- a call of a macro
-pub calls_macro : (m : Macro) (got : List (List Item)) (s : Machine) (t : Expansion) (result : Result (Unit {0}) Stop) → Yields result t (call m got s.expander)
-    → t.budget ≡ s.expander.budget → Acts (expanding (call m got)) result s (record s { expander = t })
-calls_macro m got s t result gives kept = record {
+pub calls_macro : (m : Macro) (got : List (List Item)) (s : Machine) (t : Expansion) (result : Result Step Stop) → Yields result t (call m got s.expander)
+    → t.budget ≡ s.expander.budget → IfOk result (λ x. IsWithin (reach_of_step x) (things s)) → Calls m got result s (record s { expander = t })
+calls_macro m got s t result gives kept given = record {
   meaning = in_text_yields s result t (call m got s.expander) gives;
-  went = free_left result s t (free_by (λ called. ⊤) result s.expander t (call m got s.expander) gives (counted.called m got s.expander));
+  went = free_left GoesOn result s t (free_by GoesOn result s.expander t (call m got s.expander) gives (counted.called m got s.expander));
   kept = kept;
   files = refl;
   grown = within_itself (things s);
-  within = nothing_given (things s) result;
+  within = given;
 }
 
 -- one more primary
@@ -238,7 +239,7 @@ pub enters : (s : Machine) (t : Expansion) (result : Result (Unit {0}) Stop) →
     → Acts (expanding enter) result s (record s { expander = t })
 enters s t result gives kept = record {
   meaning = in_text_yields s result t (enter s.expander) gives;
-  went = free_left result s t (free_by (λ entered. ⊤) result s.expander t (enter s.expander) gives (counted.entered s.expander));
+  went = free_left (λ entered. ⊤) result s t (free_by (λ entered. ⊤) result s.expander t (enter s.expander) gives (counted.entered s.expander));
   kept = kept;
   files = refl;
   grown = within_itself (things s);

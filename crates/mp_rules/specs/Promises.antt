@@ -1,6 +1,8 @@
 -- What the functions of the evaluator promise of the meaning.
-use Rattle.std.specs.Prelude.{◌≡◌, ◌≤◌, ◌+◌, ℕ, Option, Some, None, Result, IfOk}
+use Rattle.std.specs.Prelude.{◌≡◌, ◌≤◌, ◌+◌, ℕ, List, Option, Some, None, Result, IfOk}
 use Rattle.mp_values.specs.Outcome.{Yields}
+use Rattle.mp_values.specs.declared.item.Item.{Item}
+use Rattle.mp_values.specs.declared.macros.Macro.{Macro}
 use Rattle.mp_values.specs.declared.stop.Stop.{Stop}
 use Rattle.mp_values.specs.declared.turn.Pending.{Pending}
 use Rattle.mp_values.specs.declared.value.Value.{Value}
@@ -9,11 +11,12 @@ use Rattle.mp_macro.specs.Headings.{Reading}
 use Rattle.mp_acts.specs.Reach.{reach, reach_of_item, reach_of_part, one_symbol, one_internal}
 use Rattle.mp_rules.specs.Reach.{reach_of_raw, reach_of_first, reach_of_step}
 use Rattle.mp_rules.specs.Machine.{Machine, Rule, coming, left, things}
-use Rattle.mp_rules.specs.Rules.{advancing, What, AnswerTo, AnswerShape, Answer, shape_of, Nothing, OneRaw, OneValue, OneSide, OneName, Parts, Shapes, NextFront, NextRaw, Operand, VariableName, NameFrom, Group, ChainRest, ShowList, SymbolList, TypeList, CommandRest}
+use Rattle.mp_rules.specs.Rules.{advancing, What, AnswerTo, AnswerShape, Answer, shape_of, Nothing, OneRaw, OneValue, OneSide, OneName, Parts, Shapes, NextFront, NextRaw, Asked, VariableName, NameFrom, Group, ChainRest, ShowList, SymbolList, TypeList, CommandRest}
 use Rattle.mp_vartree.specs.declared.names.Part.{Part}
 use Rattle.mp_rules.specs.Chains.{reach_of_side}
 use Rattle.mp_rules.specs.Meaning.{the}
 use Rattle.mp_expand.specs.Steps.{take_first}
+use Rattle.mp_expand.specs.Calls.{call}
 use Rattle.mp_expand.specs.Advance.{items_of}
 use Rattle.mp_expand.specs.Laws.{cost, cost_of_first}
 use Rattle.mp_expand.specs.declared.step.Answer.{Answer as Answered}
@@ -53,7 +56,7 @@ used_by Shapes x = 0
 abbrev pub from : What → Machine → ℕ
 from NextFront s = coming s
 from NextRaw s = coming s
-from (Operand w) s = coming s
+from (Asked w) s = coming s
 from (VariableName symbol) s = coming s
 from (NameFrom symbol root parts) s = coming s
 from Group s = coming s
@@ -155,6 +158,10 @@ ActsAnswer does result old new = Reads does (left old) (λ answer. 0) (λ answer
 -- what comes of an item costs a step, and nothing where nothing was left
 abbrev pub Advances : Result Step Stop → Machine → Machine → Type 0
 Advances result old new = Reads advancing (left old) cost reach_of_step result old new
+
+-- a macro is called, or asks for its first argument
+abbrev pub Calls : Macro → List (List Item) → Result Step Stop → Machine → Machine → Type 0
+Calls m got result old new = Reads (expanding (call m got)) (left old) (λ x. 0) reach_of_step result old new
 
 -- a call that asks for more used the front behind its last argument
 abbrev pub used_by_step : Step → ℕ

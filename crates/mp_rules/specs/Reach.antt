@@ -1,5 +1,7 @@
 -- What the text that is left, and the fronts in hand, speak of by number.
-use Rattle.std.specs.Prelude.{List, Option, Some, None}
+use Rattle.std.specs.Prelude.{⊤, List, Option, Some, None}
+use Rattle.mp_values.specs.Ends.{IsNoEnd}
+use Rattle.mp_values.specs.declared.item.Item as items
 use Rattle.mp_values.specs.declared.turn.LeftOver.{LeftOver}
 use Rattle.mp_values.specs.declared.turn.LeftOver.TheVariants.{Forever, Values, Suffixes, Steps}
 use Rattle.mp_values.specs.declared.turn.Pending.{Pending}
@@ -11,9 +13,14 @@ use Rattle.mp_values.specs.declared.value.Value.{Value}
 use Rattle.mp_expand.specs.Expansion.{Expansion}
 use Rattle.mp_expand.specs.declared.front.Front.{Front}
 use Rattle.mp_expand.specs.declared.front.Front.TheVariants as front
+use Rattle.mp_expand.specs.declared.request.Behind.{Behind}
+use Rattle.mp_expand.specs.declared.request.Behind.TheVariants as behind
+use Rattle.mp_expand.specs.declared.request.Call.{Call}
 use Rattle.mp_expand.specs.declared.request.Need.{Need}
 use Rattle.mp_expand.specs.declared.request.Need.TheVariants as need
 use Rattle.mp_expand.specs.declared.request.Request.{Request}
+use Rattle.mp_expand.specs.declared.request.Until.{Until}
+use Rattle.mp_expand.specs.declared.request.Until.TheVariants as until
 use Rattle.mp_expand.specs.declared.step.Step.{Step}
 use Rattle.mp_expand.specs.declared.step.Step.TheVariants as step
 use Rattle.mp_rules.specs.declared.front.Raw.{Raw}
@@ -59,6 +66,7 @@ reach_of_front front.Capsule = nothing
 reach_of_front (front.Word symbol w) = one_symbol symbol
 reach_of_front (front.Tag symbol) = one_symbol symbol
 reach_of_front (front.Internal symbol k) = most (one_symbol symbol) (one_internal k)
+reach_of_front (front.Operator symbol) = one_symbol symbol
 reach_of_front (front.Left symbol pair) = most (one_symbol symbol) (reach_of_pair pair)
 reach_of_front (front.Right symbol pair) = most (one_symbol symbol) (reach_of_pair pair)
 reach_of_front front.EndOfText = nothing
@@ -68,24 +76,44 @@ reach_of_held None = nothing
 reach_of_held (Some x) = reach_of_front x
 
 -- the delimiters of a call
+abbrev pub reach_of_behind : Behind → Counts
+reach_of_behind (behind.Delimiter pair) = reach_of_pair pair
+reach_of_behind behind.Of = nothing
+reach_of_behind behind.Anything = nothing
+
+abbrev pub reach_of_until : Until → Counts
+reach_of_until (until.Delimiter pair) = reach_of_pair pair
+reach_of_until until.Statement = nothing
+
 abbrev pub reach_of_need : Need → Counts
 reach_of_need (need.Opening kind) = nothing
-reach_of_need (need.Answer pair) = reach_of_pair pair
-reach_of_need (need.Text pair depth) = reach_of_pair pair
+reach_of_need (need.Answer b) = reach_of_behind b
+reach_of_need (need.Text u depth) = reach_of_until u
 
--- a call: its body, its arguments, what was read of a text, and its delimiters
+-- a call: its body, its arguments, and what was read of a text
+abbrev pub reach_of_call : Call → Counts
+reach_of_call c = most (most (reach_of_macro c.called) (greatest (greatest reach_of_item) c.got)) (greatest reach_of_item c.text)
+
 abbrev pub reach_of_request : Request → Counts
-reach_of_request r =
-    most (most (reach_of_macro r.called) (greatest (greatest reach_of_item) r.got)) (most (greatest reach_of_item r.text) (reach_of_need r.need))
+reach_of_request r = most (reach_of_call r.call) (reach_of_need r.need)
 
 -- the text that is left, and the calls that are not yet whole
 abbrev pub reach_of_expansion : Expansion → Counts
 reach_of_expansion e = most (reach_of_text e.text) (greatest reach_of_request e.requests)
 
--- the macro that a name is the name of, if it is that of one
-abbrev pub reach_of_named_macro : Option Macro → Counts
-reach_of_named_macro None = nothing
-reach_of_named_macro (Some m) = reach_of_macro m
+-- a macro, if there is one
+abbrev pub reach_of_maybe_macro : Option Macro → Counts
+reach_of_maybe_macro None = nothing
+reach_of_maybe_macro (Some m) = reach_of_macro m
+
+-- an item, if there is one
+abbrev pub reach_of_maybe_item : Option items.Item → Counts
+reach_of_maybe_item None = nothing
+reach_of_maybe_item (Some x) = reach_of_item x
+
+abbrev pub IsNoEndOrNone : Option items.Item → Type 0
+IsNoEndOrNone None = ⊤
+IsNoEndOrNone (Some x) = IsNoEnd x
 
 -- what comes of one more item
 abbrev pub reach_of_step : Step → Counts

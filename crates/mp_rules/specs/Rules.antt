@@ -1,12 +1,12 @@
 -- The meaning of a text: one function, by cases on what is asked.
 -- The grammar is that of Hobby, A User's Manual for MetaPost, as far as it is built, and of Knuth, The METAFONTbook,
 -- chapters 8, 25 and 26; the refusals are this project's own.
-use Rattle.std.specs.Prelude.{ℕ, ℤ, Bool, true, false, List, [], ◌∷◌, ◌++◌, Option, Some, None, length, nat_lt, map, take, drop, Ok, codes}
+use Rattle.std.specs.Prelude.{ℕ, ◌+◌, ℤ, Bool, true, false, List, [], ◌∷◌, ◌++◌, Option, Some, None, length, nat_lt, map, take, drop, Ok, codes}
 use Rattle.mp_report.specs.declared.error.Cap.TheVariants as cap
 use Rattle.mp_report.specs.declared.error.SourceError.TheVariants as error
 use Rattle.mp_values.specs.Outcome.{◌>>=◌, give, halt, lift, change, Refused}
-use Rattle.mp_values.specs.Refusals.{bad_token, not_built}
-use Rattle.mp_values.specs.Words.{unary_of, name_of_definition, definition_of}
+use Rattle.mp_values.specs.Refusals.{bad_token}
+use Rattle.mp_values.specs.Words.{unary_of}
 use Rattle.mp_values.specs.declared.item.Item.{Item}
 use Rattle.mp_values.specs.declared.item.Item.TheVariants as item
 use Rattle.mp_values.specs.declared.macros.Level.{Level}
@@ -44,19 +44,21 @@ use Rattle.mp_acts.specs.Definitions.{group_symbols}
 use Rattle.mp_acts.specs.Lines.{show, speak}
 use Rattle.mp_acts.specs.Groups.{begin_group, end_group, with_each, let_symbol, delimiters, interim}
 use Rattle.mp_acts.specs.declared.target.Target.TheVariants as target
-use Rattle.mp_expand.specs.Fronts.{secondary_in, tertiary_in, begins_primary, begins_factor}
+use Rattle.mp_expand.specs.Fronts.{secondary_in, tertiary_in, operator_in, begins_primary, begins_factor}
 use Rattle.mp_expand.specs.Steps.{take_first, enter}
 use Rattle.mp_expand.specs.Calls.{are_pair, call}
 use Rattle.mp_expand.specs.Advance.{advance}
 use Rattle.mp_expand.specs.declared.step.Answer.{Answer as Given}
 use Rattle.mp_expand.specs.declared.step.Answer.TheVariants as answer
+use Rattle.mp_expand.specs.declared.step.Operand.{Operand}
+use Rattle.mp_expand.specs.declared.step.Operand.TheVariants as operand
 use Rattle.mp_expand.specs.declared.step.Step.{Step}
 use Rattle.mp_expand.specs.declared.step.Step.TheVariants as step
 use Rattle.mp_expand.specs.declared.step.Want.{Want}
 use Rattle.mp_expand.specs.declared.step.Want.TheVariants as want
 use Rattle.mp_rules.specs.Machine.{Rule}
 use Rattle.mp_rules.specs.Fronts.{taken_as}
-use Rattle.mp_rules.specs.Steps.{expanding, leave, see, see_string, see_value, hold, string_in_hand, value_in_hand, answering, acting, internal_number, unexpected, unexpected_raw}
+use Rattle.mp_rules.specs.Steps.{expanding, leave, see, see_string, see_value, hold, string_in_hand, value_in_hand, put_hand_back, put_bracket_back, answering, acting, internal_number, unexpected, unexpected_raw}
 use Rattle.mp_rules.specs.Chains.{settle}
 use Rattle.mp_rules.specs.Definitions.{definition_read}
 use Rattle.mp_expand.specs.declared.front.Front.{Front}
@@ -74,12 +76,13 @@ use Rattle.mp_rules.specs.declared.named.Named.TheVariants as named
 pub data What : Type 0 where
   NextFront : What
   NextRaw : What
-  Operand : Want → What
+  Asked : Want → What
   NumberThen : ℤ → What
   Factor : Value → What
   VariableName : ℕ → What
   NameFrom : ℕ → ℕ → List Part → What
   Suffix : List Part → What
+  SuffixBehind : ℕ → List Part → What
   Group : What
   PrimaryInside : What
   Primary : What
@@ -88,6 +91,8 @@ pub data What : Type 0 where
   SecondaryRest : Value → What
   Secondary : What
   TertiaryRest : Value → What
+  Tertiary : What
+  ExpressionRest : Value → What
   ExpressionFrom : Value → What
   Expression : What
   ChainSide : What
@@ -125,10 +130,11 @@ Answer Shapes = List Shape
 abbrev pub shape_of : What → AnswerShape
 shape_of NextFront = Nothing
 shape_of NextRaw = OneRaw
-shape_of (Operand w) = Nothing
+shape_of (Asked w) = Nothing
 shape_of (VariableName symbol) = OneName
 shape_of (NameFrom symbol root parts) = OneName
 shape_of (Suffix parts) = Parts
+shape_of (SuffixBehind count parts) = Parts
 shape_of LeadingInside = OneSide
 shape_of Leading = OneSide
 shape_of ChainSide = OneSide
@@ -156,7 +162,7 @@ step_by rule (step.Front x) = change (see x)
 step_by rule (step.Text bytes) = change (see_string bytes)
 step_by rule (step.Capsule v) = change (see_value v)
 step_by rule (step.Want w) = do
-  served ← rule (Operand w)
+  served ← rule (Asked w)
   rule NextFront
 
 abbrev pub advancing : Rule Step
@@ -179,25 +185,39 @@ abbrev pub item_of_part : Part → Item
 item_of_part (part.Sym symbol) = item.Symbol symbol
 item_of_part (part.Sub units) = item.Number units
 
--- what is answered to a call: an expression's value stands for itself, a suffix for its parts
-abbrev pub operand_of : Rules → Want → Rule Given
-operand_of rule want.Expression = do
-  v ← rule Expression
+-- what is read for a call: a value stands for itself, a suffix for its parts
+abbrev pub value_answer : Rule Value → Rule Given
+value_answer does = do
+  v ← does
   give (answer.Value v)
-operand_of rule want.Suffix = do
+
+abbrev pub operand_of : Rules → Operand → Rule Given
+operand_of rule operand.Primary = value_answer (rule Primary)
+operand_of rule operand.Secondary = value_answer (rule Secondary)
+operand_of rule operand.Tertiary = value_answer (rule Tertiary)
+operand_of rule operand.Expression = value_answer (rule Expression)
+operand_of rule operand.Suffix = do
   parts ← rule (Suffix [])
   give (answer.Suffix (map item_of_part parts))
 
+-- what is answered to it: what stands behind an argument without delimiters is put back before
+abbrev pub answer_to : Rules → Want → Rule Given
+answer_to rule (want.Followed o) = operand_of rule o
+answer_to rule (want.Last o) = do
+  a ← operand_of rule o
+  back ← change put_hand_back
+  give a
+
 -- the call goes on with the text, or asks for more
 abbrev pub wanted_by : Rules → Step → Rule (Unit {0})
-wanted_by rule (step.Want w) = rule (Operand w)
+wanted_by rule (step.Want w) = rule (Asked w)
 wanted_by rule x = give tt
 
 -- what a call asks for, from the next front on, and what it asks for then
-abbrev pub operand : Rules → Want → Rule (Unit {0})
-operand rule w = do
+abbrev pub asked : Rules → Want → Rule (Unit {0})
+asked rule w = do
   first ← rule NextFront
-  a ← operand_of rule w
+  a ← answer_to rule w
   x ← answering a
   wanted_by rule x
 
@@ -332,21 +352,81 @@ suffix rule parts = do
   p ← part_here rule
   suffix_by rule parts p
 
--- #@, @ and @#: what stands before the last part of a name, that part, and nothing behind the name of the macro
+-- THE CALL OF A VARIABLE'S MACRO
+
+-- an expression in brackets as a part of a name
+abbrev pub subscript_part : Value → Rule (Option Part)
+subscript_part v = do
+  closed ← bracket_end
+  units ← acting (subscript v)
+  part_used (part.Sub units)
+
+-- where a comma is behind it, the bracket is no part of the suffix
+abbrev pub bracket_behind_by : ℕ → Value → Front → Rule (Option Part)
+bracket_behind_by bracket v (front.Word symbol word.Comma) = do
+  back ← change (put_bracket_back bracket v)
+  give None
+bracket_behind_by bracket v x = subscript_part v
+
+abbrev pub bracket_behind : ℕ → Value → Rule (Option Part)
+bracket_behind bracket v s = bracket_behind_by bracket v s.front s
+
+-- a part of the suffix that stands behind the name of a macro; what stands behind that suffix is put back
+abbrev pub part_behind_by : Rules → Front → Rule (Option Part)
+part_behind_by rule (front.Tag symbol) = part_used (part.Sym symbol)
+part_behind_by rule (front.Internal symbol k) = part_used (part.Sym symbol)
+part_behind_by rule (front.Number n) = part_used (part.Sub n)
+part_behind_by rule (front.Word symbol word.LeftBracket) = do
+  v ← next_expression rule
+  bracket_behind symbol v
+part_behind_by rule x = do
+  back ← change put_hand_back
+  give None
+
+abbrev pub part_behind : Rules → Rule (Option Part)
+part_behind rule s = part_behind_by rule s.front s
+
+-- the parts so far and one more, and what is behind it; the name before it counts too
+abbrev pub behind_on : Rules → ℕ → List Part → Option Part → Rule (List Part)
+behind_on rule count parts None = give parts
+behind_on rule count parts (Some p) = do
+  room ← room_for_part (count + length parts)
+  next ← rule NextFront
+  rule (SuffixBehind count (parts ++ p ∷ []))
+
+-- the suffix that stands behind a name of so many parts
+abbrev pub suffix_behind : Rules → ℕ → List Part → Rule (List Part)
+suffix_behind rule count parts = do
+  p ← part_behind rule
+  behind_on rule count parts p
+
+-- #@, @ and @#: what stands before the last part of the name of the macro, that part, and the suffix behind it
 abbrev pub name_items : ℕ → List Part → List Item
 name_items symbol parts = item.Symbol symbol ∷ map item_of_part parts
 
-abbrev pub called_with : ℕ → List Part → List (List Item)
-called_with symbol parts =
-    take (length parts) (name_items symbol parts) ∷ drop (length parts) (name_items symbol parts) ∷ [] ∷ []
+abbrev pub called_with : ℕ → List Part → List Part → List (List Item)
+called_with symbol parts behind =
+    take (length parts) (name_items symbol parts) ∷ drop (length parts) (name_items symbol parts) ∷ map item_of_part behind ∷ []
 
--- a name that is that of a macro calls it at once; with @# at its end that is not built
-abbrev pub called_by : Rules → ℕ → List Part → Macro → Level → Rule Named
-called_by rule symbol parts m level.Variable = do
-  called ← expanding (call m (called_with symbol parts))
-  next ← rule NextFront
+-- a macro is called, and what it asks for is answered
+abbrev pub call_on : Rules → Macro → List (List Item) → Rule (Unit {0})
+call_on rule m got = do
+  x ← expanding (call m got)
+  served ← wanted_by rule x
+  rule NextFront
+
+abbrev pub called_named : Rules → ℕ → List Part → List Part → Macro → Rule Named
+called_named rule symbol parts behind m = do
+  on ← call_on rule m (called_with symbol parts behind)
   give named.Called
-called_by rule symbol parts m other = halt (not_built (name_of_definition (definition_of other)))
+
+-- a name that is that of a macro calls it at once; with @# at its end the rest of the suffix is read first
+abbrev pub called_by : Rules → ℕ → List Part → Macro → Level → Rule Named
+called_by rule symbol parts m level.Suffixed = do
+  next ← rule NextFront
+  behind ← rule (SuffixBehind (length parts) [])
+  called_named rule symbol parts behind m
+called_by rule symbol parts m other = called_named rule symbol parts [] m
 
 -- one more part of a name, unless the name ends here
 abbrev pub name_on : Rules → ℕ → ℕ → List Part → Option Part → Rule Named
@@ -533,16 +613,35 @@ leading rule = do
 
 -- SECONDARIES, TERTIARIES, EXPRESSIONS
 
--- the operators of a level, from the left, behind a value
-abbrev pub secondary_by : Rules → Value → Option SecondaryOperator → Rule Value
-secondary_by rule v (Some op) = do
+-- a value in place of its expression, in a text
+abbrev pub capsule : Value → List Item
+capsule v = item.Capsule v ∷ []
+
+-- the macro of a user that the front in hand is between operands of a level
+abbrev pub operator_here : Level → Machine → Option Macro
+operator_here l s = operator_in s.acts.symbols.names l s.front
+
+-- its body, with both operands as values, comes to stand in front of what is behind the right one
+abbrev pub joined : Rules → Macro → Value → Value → Rule (Unit {0})
+joined rule m left right = do
+  back ← change put_hand_back
+  call_on rule m (capsule left ∷ capsule right ∷ [])
+
+-- the operators of a level, from the left, behind a value; behind one of a user the level is read again
+abbrev pub secondary_by : Rules → Value → Option SecondaryOperator → Option Macro → Rule Value
+secondary_by rule v (Some op) m = do
   right ← next_primary rule
   both ← acting (act.secondary op v right)
   rule (SecondaryRest both)
-secondary_by rule v None = give v
+secondary_by rule v None (Some m) = do
+  right ← next_primary rule
+  on ← joined rule m v right
+  first ← rule Primary
+  rule (SecondaryRest first)
+secondary_by rule v None None = give v
 
 abbrev pub secondary_rest : Rules → Value → Rule Value
-secondary_rest rule v s = secondary_by rule v (secondary_in s.front) s
+secondary_rest rule v s = secondary_by rule v (secondary_in s.front) (operator_here level.Primary s) s
 
 -- primaries joined by operators
 abbrev pub secondary : Rules → Rule Value
@@ -550,22 +649,51 @@ secondary rule = do
   v ← rule Primary
   rule (SecondaryRest v)
 
-abbrev pub tertiary_by : Rules → Value → Option TertiaryOperator → Rule Value
-tertiary_by rule v (Some op) = do
+abbrev pub next_secondary : Rules → Rule Value
+next_secondary rule = do
   first ← rule NextFront
-  right ← rule Secondary
+  rule Secondary
+
+abbrev pub tertiary_by : Rules → Value → Option TertiaryOperator → Option Macro → Rule Value
+tertiary_by rule v (Some op) m = do
+  right ← next_secondary rule
   both ← acting (act.tertiary op v right)
   rule (TertiaryRest both)
-tertiary_by rule v None = give v
+tertiary_by rule v None (Some m) = do
+  right ← next_secondary rule
+  on ← joined rule m v right
+  first ← rule Secondary
+  rule (TertiaryRest first)
+tertiary_by rule v None None = give v
 
 abbrev pub tertiary_rest : Rules → Value → Rule Value
-tertiary_rest rule v s = tertiary_by rule v (tertiary_in s.front) s
+tertiary_rest rule v s = tertiary_by rule v (tertiary_in s.front) (operator_here level.Secondary s) s
 
--- the rest of an expression that begins with a primary; no operator of the highest level is built
+-- secondaries joined by operators
+abbrev pub tertiary : Rules → Rule Value
+tertiary rule = do
+  v ← rule Secondary
+  rule (TertiaryRest v)
+
+-- no operator of the highest level is built but those of users
+abbrev pub expression_by : Rules → Value → Option Macro → Rule Value
+expression_by rule v (Some m) = do
+  next ← rule NextFront
+  right ← rule Tertiary
+  on ← joined rule m v right
+  first ← rule Tertiary
+  rule (ExpressionRest first)
+expression_by rule v None = give v
+
+abbrev pub expression_rest : Rules → Value → Rule Value
+expression_rest rule v s = expression_by rule v (operator_here level.Tertiary s) s
+
+-- the rest of an expression that begins with a primary
 abbrev pub expression_from : Rules → Value → Rule Value
 expression_from rule v = do
   second ← rule (SecondaryRest v)
-  rule (TertiaryRest second)
+  third ← rule (TertiaryRest second)
+  rule (ExpressionRest third)
 
 abbrev pub expression : Rules → Rule Value
 expression rule = do
@@ -875,12 +1003,13 @@ statements rule = do
 unfoldable pub case : Rules → Rules
 case rule NextFront = next_front rule
 case rule NextRaw = next_raw rule
-case rule (Operand w) = operand rule w
+case rule (Asked w) = asked rule w
 case rule (NumberThen n) = number_then rule n
 case rule (Factor v) = factor rule v
 case rule (VariableName symbol) = variable_name rule symbol
 case rule (NameFrom symbol root parts) = name_from rule symbol root parts
 case rule (Suffix parts) = suffix rule parts
+case rule (SuffixBehind count parts) = suffix_behind rule count parts
 case rule Group = group rule
 case rule PrimaryInside = primary_inside rule
 case rule Primary = primary rule
@@ -889,6 +1018,8 @@ case rule Leading = leading rule
 case rule (SecondaryRest v) = secondary_rest rule v
 case rule Secondary = secondary rule
 case rule (TertiaryRest v) = tertiary_rest rule v
+case rule Tertiary = tertiary rule
+case rule (ExpressionRest v) = expression_rest rule v
 case rule (ExpressionFrom v) = expression_from rule v
 case rule Expression = expression rule
 case rule ChainSide = chain_side rule

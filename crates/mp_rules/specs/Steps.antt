@@ -1,8 +1,10 @@
 -- The single steps of a run.
-use Rattle.std.specs.Prelude.{ℕ, List, [], Ok, Err, Some}
+use Rattle.std.specs.Prelude.{ℕ, List, [], Ok, Err, Option, Some, None}
 use Rattle.mp_report.specs.declared.place.Place.{Place}
 use Rattle.mp_values.specs.Outcome.{OutcomeBy, Cause, Refused}
 use Rattle.mp_values.specs.Outcome as act
+use Rattle.mp_values.specs.declared.item.Item.{Item}
+use Rattle.mp_values.specs.declared.item.Item.TheVariants as item
 use Rattle.mp_values.specs.declared.value.Value.{Value}
 use Rattle.mp_values.specs.declared.value.Value.TheVariants.{Vacuous}
 use Rattle.mp_values.specs.declared.word.Secondary.TheVariants.{Over}
@@ -73,6 +75,41 @@ string_in_hand s = Ok (s.string, record s { string = [] })
 -- the value in hand, which is used up
 abbrev pub value_in_hand : Rule Value
 value_in_hand s = Ok (s.value, record s { value = Vacuous })
+
+-- a front as an item of the text: a string and a value by what is in hand. The end of the text is none
+abbrev pub item_in_hand : Machine → Front → Option Item
+item_in_hand s (front.Number n) = Some (item.Number n)
+item_in_hand s front.Text = Some (item.Text s.string)
+item_in_hand s front.Capsule = Some (item.Capsule s.value)
+item_in_hand s (front.Word symbol w) = Some (item.Symbol symbol)
+item_in_hand s (front.Tag symbol) = Some (item.Symbol symbol)
+item_in_hand s (front.Internal symbol k) = Some (item.Symbol symbol)
+item_in_hand s (front.Operator symbol) = Some (item.Symbol symbol)
+item_in_hand s (front.Left symbol pair) = Some (item.Symbol symbol)
+item_in_hand s (front.Right symbol pair) = Some (item.Symbol symbol)
+item_in_hand s front.EndOfText = None
+
+abbrev pub item_held : Machine → Option Front → Option Item
+item_held s (Some x) = item_in_hand s x
+item_held s None = None
+
+abbrev pub put_back : Option Item → Machine → Machine
+put_back (Some x) s = record s { expander = expander.put_back x s.expander }
+put_back None s = s
+
+abbrev pub put_held_back : Machine → Machine
+put_held_back s = put_back (item_held s s.held) (record s { held = None })
+
+abbrev pub put_front_back : Machine → Machine
+put_front_back s = put_back (item_in_hand s s.front) (see front.EndOfText s)
+
+-- what is in hand comes to stand in front of the text again: a front, or a slash and the front that is held behind it
+abbrev pub put_hand_back : Machine → Machine
+put_hand_back s = put_front_back (put_held_back s)
+
+-- behind a left bracket that is no part of a suffix: it, the value that was read behind it, and what is in hand
+abbrev pub put_bracket_back : ℕ → Value → Machine → Machine
+put_bracket_back bracket v s = put_back (Some (item.Symbol bracket)) (put_back (Some (item.Capsule v)) (put_hand_back s))
 
 -- the answer to a call that waits for it, with the front in hand, which is used up
 abbrev pub answering : Answer → Rule Step

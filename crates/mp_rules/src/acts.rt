@@ -12,7 +12,7 @@ ghost use Rattle.mp_acts.specs.Suffixes as suffixes;
 ghost use Rattle.mp_acts.specs.Variables as variables;
 ghost use Rattle.mp_rules.specs.Machine.{things};
 ghost use Rattle.mp_rules.specs.Promises.{Acts, ActsValue};
-ghost use Rattle.mp_rules.specs.Reach.{reach_of_named_macro};
+ghost use Rattle.mp_rules.specs.Reach.{reach_of_maybe_macro};
 ghost use Rattle.mp_rules.specs.Chains.{gets, reach_of_side};
 ghost use Rattle.mp_rules.specs.Steps.{acting, internal_number};
 
@@ -127,7 +127,7 @@ impl Evaluator {
         name: &Suffix,
     ) -> Result<Option<Shared<Macro>>, Stop>
         ensures exact { IfOk result (λ m. m ≡ variables.macro_named self.now.acts root name.now) }
-        ensures within { IfOk result (λ m. IsWithin (reach_of_named_macro m) (things self.now)) }
+        ensures within { IfOk result (λ m. IsWithin (reach_of_maybe_macro m) (things self.now)) }
         ensures starved { OnErr result (result ≡ Err Stop.NoMemory) }
     {
         match self.acts.macro_named(root, name.as_slice()) {

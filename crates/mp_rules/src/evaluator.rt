@@ -1,30 +1,31 @@
 //! The evaluator and its single steps.
 
-ghost use Rattle.std.specs.Prelude.{◌≡◌, ◌≢◌, ◌<◌, ◌≤◌, List, ℕ, Err, map};
-ghost use Rattle.mp_values.specs.Outcome.{IsStop, Yields};
+ghost use Rattle.std.specs.Prelude.{◌≡◌, ◌≢◌, ◌<◌, ◌≤◌, List, ℕ, [], ◌∷◌, Err, IfOk, OnErr, map};
+ghost use Rattle.mp_values.specs.Outcome.{IsStop, Yields, change};
 ghost use Rattle.mp_expand.specs.Advance.{items_of};
-ghost use Rattle.mp_expand.specs.Calls.{call};
 ghost use Rattle.mp_expand.specs.Steps.{enter};
 ghost use Rattle.mp_acts.specs.Counts.{greatest};
 ghost use Rattle.mp_acts.specs.Reach.{reach, reach_of_item, reach_of_macro};
 ghost use Rattle.mp_rules.specs.Fronts.{raw_stood, refused_front, refused_raw};
-ghost use Rattle.mp_rules.specs.Promises.{Acts, ActsValue, Advances, Answers, Took};
+ghost use Rattle.mp_rules.specs.Promises.{Acts, ActsValue, Advances, Answers, Calls, Took};
+ghost use Rattle.mp_rules.specs.Rules.{capsule, operator_here};
 ghost use Rattle.mp_rules.specs.Starts.{start_on, whole};
 ghost use Rattle.mp_rules.specs.Meaning.{the};
 ghost use Rattle.mp_rules.specs.Steps as steps;
 ghost use Rattle.mp_rules.specs.Steps.{expanding};
-ghost use Rattle.mp_rules.specs.Reach.{reach_of_expansion, reach_of_front, reach_of_held, reach_of_raw};
+ghost use Rattle.mp_rules.specs.Reach.{reach_of_expansion, reach_of_front, reach_of_held, reach_of_raw, reach_of_maybe_macro, reach_of_maybe_item, IsNoEndOrNone};
 ghost use Rattle.mp_rules.specs.Machine.{things};
 ghost use Rattle.mp_acts.specs.Counts.{IsWithin};
 ghost use Rattle.mp_acts.specs.State.{counts, symbol_count};
 
 use crate::front::Raw;
+use crate::names::operand_arguments;
 use mp_acts::State;
 use mp_expand::{Answer, Expander, Front, Step};
 use mp_files::Sources;
 use mp_report::Place;
 use mp_scaled::{Shared, SharedSlice};
-use mp_values::{Arguments, Macro, Pending, Secondary, Stop, Value, Word};
+use mp_values::{Arguments, Item, Level, Macro, Pending, Secondary, Stop, Value, Word};
 use std::alloc::Global;
 use std::marker::Model;
 
@@ -179,14 +180,104 @@ impl Evaluator {
         self.expander.answer(self.acts.table(), answer, front)
     }
 
-    /// Calls the macro of a variable, with what it is told of its name.
-    pub(crate) fn call(&mut self, called: Shared<Macro>, arguments: Arguments) -> Result<(), Stop>
+    /// Calls a macro, with the arguments that its body has before its first parameter.
+    pub(crate) fn call(&mut self, called: Shared<Macro>, arguments: Arguments) -> Result<Step, Stop>
         requires body { IsWithin (reach_of_macro called) (things self.old) }
         requires arguments { IsWithin (greatest (greatest reach_of_item) arguments) (things self.old) }
-        ensures acts { Acts (expanding (call called arguments)) result self.old self.new }
+        ensures calls { Calls called arguments result self.old self.new }
         ensures hand { self.new.front ≡ self.old.front }
     {
         self.expander.call(called, arguments)
+    }
+
+    /// The macro of a user that the front in hand is between operands of a level.
+    pub(crate) fn operator(&self, level: Level) -> Result<Option<Shared<Macro>>, Stop>
+        ensures exact { IfOk result (λ m. m ≡ operator_here level self.now) }
+        ensures within { IfOk result (λ m. IsWithin (reach_of_maybe_macro m) (things self.now)) }
+        ensures starved { OnErr result (result ≡ Err Stop.NoMemory) }
+    {
+        match self.front.operator(self.acts.table(), level) {
+            Some(called) => Ok(Some(called.share()?)),
+            None => Ok(None),
+        }
+    }
+
+    /// What the macro of an operator is told of its operands.
+    pub(crate) fn joined_with(&self, left: Value, right: Value) -> Result<Arguments, Stop>
+        requires left { IsWithin (reach left) (things self.now) }
+        requires right { IsWithin (reach right) (things self.now) }
+        ensures exact { IfOk result (λ arguments. arguments ≡ capsule left ∷ capsule right ∷ []) }
+        ensures within { IfOk result (λ arguments. IsWithin (greatest (greatest reach_of_item) arguments) (things self.now)) }
+        ensures starved { OnErr result (result ≡ Err Stop.NoMemory) }
+    {
+        Ok(operand_arguments(self.alloc, left, right)?)
+    }
+
+    /// A front as an item of the text; none at the end of the text.
+    fn item_in_hand(&self, front: Front) -> Result<Option<Item>, Stop>
+        requires { IsWithin (reach_of_front front) (things self.now) }
+        ensures exact { IfOk result (λ item. item ≡ steps.item_in_hand self.now front) }
+        ensures within { IfOk result (λ item. IsWithin (reach_of_maybe_item item) (things self.now)) }
+        ensures ends { IfOk result IsNoEndOrNone }
+        ensures starved { OnErr result (result ≡ Err Stop.NoMemory) }
+    {
+        let alloc = self.alloc;
+        Ok(Some(match front {
+            Front::Number(value) => Item::Number(value),
+            Front::Text => match &self.string {
+                Some(bytes) => Item::Text(bytes.share()?),
+                None => Item::Text(SharedSlice::from_vec(Vec::new(alloc))?),
+            },
+            Front::Capsule => match &self.value {
+                Some(value) => Item::Capsule(value.share()?),
+                None => Item::Capsule(Shared::new(alloc, Value::Vacuous)?),
+            },
+            Front::Word(symbol, _)
+            | Front::Tag(symbol)
+            | Front::Internal(symbol, _)
+            | Front::Operator(symbol)
+            | Front::Left(symbol, _)
+            | Front::Right(symbol, _) => Item::Symbol(symbol),
+            Front::EndOfText => return Ok(None),
+        }))
+    }
+
+    /// An item, if there is one, comes to stand in front of the text again.
+    fn put_back(&mut self, item: Option<Item>) -> Result<(), Stop>
+        requires within { IsWithin (reach_of_maybe_item item) (things self.old) }
+        requires ends { IsNoEndOrNone item }
+        ensures acts { Acts (change (steps.put_back item)) result self.old self.new }
+    {
+        match item {
+            Some(item) => self.expander.put_back(item),
+            None => Ok(()),
+        }
+    }
+
+    /// What is in hand comes to stand in front of the text again: a front, or a slash and the front held behind it.
+    pub(crate) fn put_hand_back(&mut self) -> Result<(), Stop>
+        ensures { Acts (change steps.put_hand_back) result self.old self.new }
+    {
+        if let Some(held) = self.held.take() {
+            let item = self.item_in_hand(held)?;
+            self.put_back(item)?;
+        }
+        let front = self.front;
+        self.front = Front::EndOfText;
+        let item = self.item_in_hand(front)?;
+        self.put_back(item)
+    }
+
+    /// What is in hand comes to stand in front of the text again, behind a bracket and the value that was read in it.
+    pub(crate) fn put_bracket_back(&mut self, bracket: u32, value: Value) -> Result<(), Stop>
+        requires bracket { bracket < symbol_count self.old.acts }
+        requires value { IsWithin (reach value) (things self.old) }
+        ensures { Acts (change (steps.put_bracket_back bracket value)) result self.old self.new }
+    {
+        self.put_hand_back()?;
+        let value = Shared::new(self.alloc, value)?;
+        self.put_back(Some(Item::Capsule(value)))?;
+        self.put_back(Some(Item::Symbol(bracket)))
     }
 
     /// The front in hand.

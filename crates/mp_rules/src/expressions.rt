@@ -2,15 +2,31 @@
 
 ghost use Rattle.std.specs.Prelude.{◌≡◌, ◌≤◌};
 ghost use Rattle.mp_acts.specs.Counts.{IsWithin};
-ghost use Rattle.mp_acts.specs.Reach.{reach};
+ghost use Rattle.mp_acts.specs.Reach.{reach, reach_of_macro};
 ghost use Rattle.mp_rules.specs.Machine.{things};
-ghost use Rattle.mp_rules.specs.Rules.{SecondaryRest, Secondary, TertiaryRest, ExpressionFrom, Expression};
-ghost use Rattle.mp_rules.specs.Promises.{Means};
+ghost use Rattle.mp_rules.specs.Rules as rules;
+ghost use Rattle.mp_rules.specs.Rules.{SecondaryRest, Secondary, TertiaryRest, Tertiary, ExpressionRest, ExpressionFrom, Expression};
+ghost use Rattle.mp_rules.specs.Promises.{Means, Acts, UsesValue};
+ghost use Rattle.mp_rules.specs.Meaning.{the};
 
 use crate::evaluator::Evaluator;
-use mp_values::{Stop, Value};
+use mp_scaled::Shared;
+use mp_values::{Level, Macro, Stop, Value};
 
 impl Evaluator {
+    /// The macro of an operator joins two values: its body comes to stand in front of what is behind the right one.
+    #[cycle(eval)]
+    fn joined(&mut self, called: Shared<Macro>, left: Value, right: Value) -> Result<(), Stop>
+        requires body { IsWithin (reach_of_macro called) (things self.old) }
+        requires left { IsWithin (reach left) (things self.old) }
+        requires right { IsWithin (reach right) (things self.old) }
+        ensures { Acts (rules.joined the called left right) result self.old self.new }
+    {
+        self.put_hand_back()?;
+        let arguments = self.joined_with(left, right)?;
+        self.call_on(called, arguments)
+    }
+
     /// More primaries, joined by operators, from the left.
     #[cycle(eval)]
     #[tactic(auto, using(crate::proofs::Cases::secondary_rest_is))]
@@ -20,12 +36,15 @@ impl Evaluator {
     {
         let mut so_far = left;
         'primaries: loop {
-            so_far = match self.sign().secondary() {
-                Some(operator) => {
-                    let right = self.next_primary()?;
-                    self.secondary_of(operator, so_far, right)?
-                }
-                None => return Ok(so_far),
+            so_far = if let Some(operator) = self.sign().secondary() {
+                let right = self.next_primary()?;
+                self.secondary_of(operator, so_far, right)?
+            } else if let Some(called) = self.operator(Level::Primary)? {
+                let right = self.next_primary()?;
+                self.joined(called, so_far, right)?;
+                self.primary()?
+            } else {
+                return Ok(so_far);
             };
         }
     }
@@ -33,11 +52,20 @@ impl Evaluator {
     /// Primaries joined by operators.
     #[cycle(eval)]
     #[tactic(auto, using(crate::proofs::Cases::secondary_is))]
-    fn secondary(&mut self) -> Result<Value, Stop>
+    pub(crate) fn secondary(&mut self) -> Result<Value, Stop>
         ensures { Means Secondary result self.old self.new }
     {
         let value = self.primary()?;
         self.secondary_rest(value)
+    }
+
+    /// The front that is got next, and the secondary that it begins.
+    #[cycle(eval)]
+    fn next_secondary(&mut self) -> Result<Value, Stop>
+        ensures { UsesValue (rules.next_secondary the) result self.old self.new }
+    {
+        self.next_front()?;
+        self.secondary()
     }
 
     /// More secondaries, joined by operators, from the left.
@@ -49,15 +77,44 @@ impl Evaluator {
     {
         let mut so_far = left;
         'secondaries: loop {
-            so_far = match self.sign().tertiary() {
-                Some(operator) => {
-                    self.next_front()?;
-                    let right = self.secondary()?;
-                    self.tertiary_of(operator, so_far, right)?
-                }
-                None => return Ok(so_far),
+            so_far = if let Some(operator) = self.sign().tertiary() {
+                let right = self.next_secondary()?;
+                self.tertiary_of(operator, so_far, right)?
+            } else if let Some(called) = self.operator(Level::Secondary)? {
+                let right = self.next_secondary()?;
+                self.joined(called, so_far, right)?;
+                self.secondary()?
+            } else {
+                return Ok(so_far);
             };
         }
+    }
+
+    /// Secondaries joined by operators.
+    #[cycle(eval)]
+    #[tactic(auto, using(crate::proofs::Cases::tertiary_is))]
+    pub(crate) fn tertiary(&mut self) -> Result<Value, Stop>
+        ensures { Means Tertiary result self.old self.new }
+    {
+        let value = self.secondary()?;
+        self.tertiary_rest(value)
+    }
+
+    /// More tertiaries, joined by operators, from the left.
+    #[cycle(eval)]
+    #[tactic(auto, using(crate::proofs::Cases::expression_rest_is))]
+    fn expression_rest(&mut self, left: Value) -> Result<Value, Stop>
+        requires { IsWithin (reach left) (things self.old) }
+        ensures { Means (ExpressionRest left) result self.old self.new }
+    {
+        let mut so_far = left;
+        'tertiaries: while let Some(called) = self.operator(Level::Tertiary)? {
+            self.next_front()?;
+            let right = self.tertiary()?;
+            self.joined(called, so_far, right)?;
+            so_far = self.tertiary()?;
+        }
+        Ok(so_far)
     }
 
     /// The rest of an expression that begins with a primary.
@@ -68,7 +125,8 @@ impl Evaluator {
         ensures { Means (ExpressionFrom first) result self.old self.new }
     {
         let second = self.secondary_rest(first)?;
-        self.tertiary_rest(second)
+        let third = self.tertiary_rest(second)?;
+        self.expression_rest(third)
     }
 
     /// An expression.

@@ -5,7 +5,7 @@ ghost use Rattle.mp_values.specs.Outcome.{give};
 ghost use Rattle.mp_acts.specs.Counts.{IsWithin, greatest};
 ghost use Rattle.mp_acts.specs.Reach.{reach, reach_of_part};
 ghost use Rattle.mp_rules.specs.Machine.{things};
-ghost use Rattle.mp_rules.specs.Rules.{NextFront, NextRaw, Operand, raw_symbol};
+ghost use Rattle.mp_rules.specs.Rules.{NextFront, NextRaw, Asked, raw_symbol};
 ghost use Rattle.mp_rules.specs.Rules as rules;
 ghost use Rattle.mp_rules.specs.Promises.{Means, ActsAnswer, UsesSymbol};
 ghost use Rattle.mp_rules.specs.Meaning.{the};
@@ -13,7 +13,7 @@ ghost use Rattle.mp_rules.specs.Meaning.{the};
 use crate::evaluator::Evaluator;
 use crate::front::{Raw, Taken};
 use crate::names::{answer_of_suffix, answer_of_value};
-use mp_expand::{Answer, Front, Step, Want};
+use mp_expand::{Answer, Front, Operand, Step, Want};
 use mp_values::{Stop, Value};
 use mp_vartree::Suffix;
 
@@ -43,21 +43,21 @@ impl Evaluator {
                     self.see_value(value);
                     return Ok(());
                 }
-                Step::Want(want) => self.operand(want)?,
+                Step::Want(want) => self.asked(want)?,
             }
         }
     }
 
     /// What a call asks for, from the next front on, and what it asks for then.
     #[cycle(eval)]
-    #[tactic(auto, using(crate::proofs::Cases::operand_is))]
-    fn operand(&mut self, first: Want) -> Result<(), Stop>
-        ensures { Means (Operand first) result self.old self.new }
+    #[tactic(auto, using(crate::proofs::Cases::asked_is))]
+    pub(crate) fn asked(&mut self, first: Want) -> Result<(), Stop>
+        ensures { Means (Asked first) result self.old self.new }
     {
         let mut want = first;
         'operands: loop {
             self.next_front()?;
-            let answer = self.operand_of(want)?;
+            let answer = self.answer_to(want)?;
             match self.answer(answer)? {
                 Step::Want(next) => want = next,
                 _ => return Ok(()),
@@ -65,21 +65,38 @@ impl Evaluator {
         }
     }
 
-    /// What is answered to a call, with its first front in hand.
+    /// What is answered to a call, with its first front in hand. What stands behind an argument without delimiters is
+    /// put back.
     #[cycle(eval)]
-    fn operand_of(&mut self, want: Want) -> Result<Answer, Stop>
-        ensures { ActsAnswer (rules.operand_of the want) result self.old self.new }
+    fn answer_to(&mut self, want: Want) -> Result<Answer, Stop>
+        ensures { ActsAnswer (rules.answer_to the want) result self.old self.new }
     {
         match want {
-            Want::Expression => {
-                let value = self.expression()?;
-                self.value_answer(value)
-            }
-            Want::Suffix => {
-                let parts = self.suffix()?;
-                self.suffix_answer(parts)
+            Want::Followed(operand) => self.operand(operand),
+            Want::Last(operand) => {
+                let answer = self.operand(operand)?;
+                self.put_hand_back()?;
+                Ok(answer)
             }
         }
+    }
+
+    /// What is read for a call, with its first front in hand.
+    #[cycle(eval)]
+    fn operand(&mut self, operand: Operand) -> Result<Answer, Stop>
+        ensures { ActsAnswer (rules.operand_of the operand) result self.old self.new }
+    {
+        let value = match operand {
+            Operand::Primary => self.primary()?,
+            Operand::Secondary => self.secondary()?,
+            Operand::Tertiary => self.tertiary()?,
+            Operand::Expression => self.expression()?,
+            Operand::Suffix => {
+                let parts = self.suffix()?;
+                return self.suffix_answer(parts);
+            }
+        };
+        self.value_answer(value)
     }
 
     fn value_answer(&self, value: Value) -> Result<Answer, Stop>

@@ -56,14 +56,15 @@ fn one_item(alloc: Global, item: Item) -> Result<Shared<Items>, NoMemory>
     Shared::new(alloc, items)
 }
 
-/// What the macro of a variable is told of the name that it is called by.
+/// What the macro of a variable is told of the name that it is called by, and of the suffix behind it.
 #[tactic(auto, using(crate::proofs::NameLemmas::split_at_last))]
 pub(crate) fn call_arguments(
     alloc: Global,
     symbol: u32,
     parts: &[Part],
+    behind: &[Part],
 ) -> Result<Arguments, NoMemory>
-    ensures { IfOk result (λ arguments. arguments ≡ rules.called_with symbol parts.now) }
+    ensures { IfOk result (λ arguments. arguments ≡ rules.called_with symbol parts.now behind.now) }
 {
     let mut before = Items::new(alloc);
     let mut last = Item::Symbol(symbol);
@@ -71,9 +72,25 @@ pub(crate) fn call_arguments(
         before.push(last)?;
         last = item_of_part(part);
     }
+    let mut rest = Items::new(alloc);
+    append_parts(behind, &mut rest)?;
     let mut arguments = Arguments::new(alloc);
     arguments.push(Shared::new(alloc, before)?)?;
     arguments.push(one_item(alloc, last)?)?;
-    arguments.push(Shared::new(alloc, Items::new(alloc))?)?;
+    arguments.push(Shared::new(alloc, rest)?)?;
+    Ok(arguments)
+}
+
+/// What the macro of an operator is told: both operands, as values.
+pub(crate) fn operand_arguments(
+    alloc: Global,
+    left: Value,
+    right: Value,
+) -> Result<Arguments, NoMemory>
+    ensures { IfOk result (λ arguments. arguments ≡ rules.capsule left ∷ rules.capsule right ∷ []) }
+{
+    let mut arguments = Arguments::new(alloc);
+    arguments.push(one_item(alloc, Item::Capsule(Shared::new(alloc, left)?))?)?;
+    arguments.push(one_item(alloc, Item::Capsule(Shared::new(alloc, right)?))?)?;
     Ok(arguments)
 }

@@ -226,7 +226,9 @@ impl Evaluator {
                 }
                 Front::Internal(_, k) => return self.internal(*k),
                 Front::Left(_, pair) => return self.parenthesis(*pair),
-                Front::Right(_, _) | Front::EndOfText => return Err(self.unexpected(b"primary")),
+                Front::Operator(_) | Front::Right(_, _) | Front::EndOfText => return Err(
+                    self.unexpected(b"primary"),
+                ),
             }
         }
     }

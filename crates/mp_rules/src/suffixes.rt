@@ -1,23 +1,21 @@
 //! The parts of names behind a tag: of a variable's name, and of a declared one.
 
-ghost use Rattle.std.specs.Prelude.{◌≡◌, ◌<◌, []};
+ghost use Rattle.std.specs.Prelude.{◌≡◌, ◌<◌, [], Err, IfOk, OnErr};
 ghost use Rattle.mp_acts.specs.Counts.{IsWithin, greatest};
-ghost use Rattle.mp_acts.specs.Reach.{reach_of_macro, reach_of_part};
+ghost use Rattle.mp_acts.specs.Reach.{reach, reach_of_item, reach_of_macro, reach_of_part};
 ghost use Rattle.mp_acts.specs.State.{symbol_count};
 ghost use Rattle.mp_rules.specs.Machine.{things};
 ghost use Rattle.mp_rules.specs.Promises.{Means, Acts, Uses, ActsPart, UsesName};
 ghost use Rattle.mp_rules.specs.Meaning.{the};
 ghost use Rattle.mp_rules.specs.Rules as rules;
-ghost use Rattle.mp_rules.specs.Steps.{expanding};
-ghost use Rattle.mp_expand.specs.Calls.{call};
 
 use crate::evaluator::Evaluator;
 use crate::named::Named;
 use crate::names::call_arguments;
-use mp_expand::Front;
+use mp_expand::{Front, Step};
 use mp_report::{Cap, SourceError};
 use mp_scaled::{Listing, Shared};
-use mp_values::{Level, Macro, Stop, Word};
+use mp_values::{Arguments, Level, Macro, Stop, Value, Word};
 use mp_vartree::{PART_LIMIT, Part, Pattern, Shape, Suffix};
 
 impl Evaluator {
@@ -104,7 +102,7 @@ impl Evaluator {
         }
     }
 
-    /// Calls the macro whose name was read; one with `@#` at the end of its name is not built.
+    /// Calls the macro whose name was read. With `@#` at the end of its name the rest of the suffix is read first.
     #[cycle(eval)]
     fn call_named(
         &mut self,
@@ -117,25 +115,93 @@ impl Evaluator {
         requires body { IsWithin (reach_of_macro called) (things self.old) }
         ensures { UsesName (rules.called_by the symbol parts.now called called.level) result self.old self.new }
     {
-        match called.get().level {
-            Level::Variable => {
-                self.begin_call(symbol, parts, called)?;
+        let behind = match called.get().level {
+            Level::Suffixed => {
                 self.next_front()?;
-                Ok(Named::Called)
+                self.suffix_behind(parts.as_slice().len())?
             }
-            level => Err(Stop::not_built(self.alloc, level.definition().name())),
-        }
+            _ => Listing::new(self.alloc),
+        };
+        let arguments = self.called_with(symbol, parts, &behind)?;
+        self.call_on(called, arguments)?;
+        Ok(Named::Called)
     }
 
-    /// Calls a macro of a variable, with what it is told of its name.
-    fn begin_call(&mut self, symbol: u32, parts: &Suffix, called: Shared<Macro>) -> Result<(), Stop>
-        requires symbol { symbol < symbol_count self.old.acts }
-        requires parts { IsWithin (greatest reach_of_part parts.now) (things self.old) }
-        requires body { IsWithin (reach_of_macro called) (things self.old) }
-        ensures acts { Acts (expanding (call called (rules.called_with symbol parts.now))) result self.old self.new }
+    /// What the macro of a variable is told of its name, and of what goes on behind it.
+    fn called_with(&self, symbol: u32, parts: &Suffix, behind: &Suffix) -> Result<Arguments, Stop>
+        requires symbol { symbol < symbol_count self.now.acts }
+        requires parts { IsWithin (greatest reach_of_part parts.now) (things self.now) }
+        requires behind { IsWithin (greatest reach_of_part behind.now) (things self.now) }
+        ensures exact { IfOk result (λ arguments. arguments ≡ rules.called_with symbol parts.now behind.now) }
+        ensures within { IfOk result (λ arguments. IsWithin (greatest (greatest reach_of_item) arguments) (things self.now)) }
+        ensures starved { OnErr result (result ≡ Err Stop.NoMemory) }
     {
-        let arguments = call_arguments(self.alloc, symbol, parts.as_slice())?;
-        self.call(called, arguments)
+        Ok(call_arguments(self.alloc, symbol, parts.as_slice(), behind.as_slice())?)
+    }
+
+    /// Calls a macro, and answers what it asks for; the front behind that comes to hand.
+    #[cycle(eval)]
+    pub(crate) fn call_on(&mut self, called: Shared<Macro>, arguments: Arguments) -> Result<(), Stop>
+        requires body { IsWithin (reach_of_macro called) (things self.old) }
+        requires arguments { IsWithin (greatest (greatest reach_of_item) arguments) (things self.old) }
+        ensures { Uses (rules.call_on the called arguments) result self.old self.new }
+    {
+        if let Step::Want(want) = self.call(called, arguments)? {
+            self.asked(want)?;
+        }
+        self.next_front()
+    }
+
+    /// A part of the suffix that stands behind the name of a macro. What stands behind that suffix is put back.
+    #[cycle(eval)]
+    fn part_behind(&mut self) -> Result<Option<Part>, Stop>
+        ensures { ActsPart (rules.part_behind the) result self.old self.new }
+    {
+        let part = match self.sign() {
+            Front::Tag(symbol) | Front::Internal(symbol, _) => Part::Sym(symbol),
+            Front::Number(value) => Part::Sub(value.units()),
+            Front::Word(bracket, Word::LeftBracket) => {
+                let value = self.next_expression()?;
+                return self.bracket_behind(bracket, value);
+            }
+            _ => {
+                self.put_hand_back()?;
+                return Ok(None);
+            }
+        };
+        self.see(Front::EndOfText);
+        Ok(Some(part))
+    }
+
+    /// What an expression in brackets is there: a subscript, or no part of the suffix, where a comma is behind it.
+    fn bracket_behind(&mut self, bracket: u32, value: Value) -> Result<Option<Part>, Stop>
+        requires bracket { bracket < symbol_count self.old.acts }
+        requires value { IsWithin (reach value) (things self.old) }
+        ensures { ActsPart (rules.bracket_behind bracket value) result self.old self.new }
+    {
+        if let Front::Word(_, Word::Comma) = self.sign() {
+            self.put_bracket_back(bracket, value)?;
+            return Ok(None);
+        }
+        self.bracket_end()?;
+        let units = self.subscript(value)?;
+        self.see(Front::EndOfText);
+        Ok(Some(Part::Sub(units)))
+    }
+
+    /// The suffix that stands behind the name of a macro, which has so many parts.
+    #[cycle(eval)]
+    #[tactic(auto, using(crate::proofs::Cases::suffix_behind_is, crate::proofs::Units::passed_on, crate::proofs::ReachLemmas::greatest_none, crate::proofs::ReachLemmas::greatest_push))]
+    fn suffix_behind(&mut self, count: usize) -> Result<Suffix, Stop>
+        ensures { Means (rules.SuffixBehind count []) result self.old self.new }
+    {
+        let mut parts = Listing::new(self.alloc);
+        'parts: while let Some(part) = self.part_behind()? {
+            self.room_for_part(count.saturating_add(parts.as_slice().len()))?;
+            parts.push(part)?;
+            self.next_front()?;
+        }
+        Ok(parts)
     }
 
     fn empty_bracket(&self) -> Result<(), Stop>

@@ -4,7 +4,7 @@ use Rattle.mp_acts.specs.Reach.{reach, reach_of_part}
 use Rattle.mp_rules.specs.Machine.{coming, left, things}
 use Rattle.mp_rules.specs.Chains.{reach_of_side, reach_of_sides}
 use Rattle.mp_rules.specs.Promises.{used_by_side}
-use Rattle.mp_rules.specs.Rules.{NextFront, Operand, NumberThen, Factor, VariableName, NameFrom, Suffix, Group, PrimaryInside, Primary, LeadingInside, Leading, SecondaryRest, Secondary, TertiaryRest, ExpressionFrom, Expression, ChainSide, ChainRest, Chain, ShowList, SymbolList, DeclaredName, TypeList, CommandRest, Statement, GroupStatements}
+use Rattle.mp_rules.specs.Rules.{NextFront, Asked, NumberThen, Factor, VariableName, NameFrom, Suffix, SuffixBehind, Group, PrimaryInside, Primary, LeadingInside, Leading, SecondaryRest, Secondary, TertiaryRest, Tertiary, ExpressionRest, ExpressionFrom, Expression, ChainSide, ChainRest, Chain, ShowList, SymbolList, DeclaredName, TypeList, CommandRest, Statement, GroupStatements}
 use Rattle.mp_rules.specs.Meaning.{the}
 use Rattle.mp_rules.proofs.Ranks.{measure}
 use Rattle.mp_rules.proofs.evaluator.Evaluator.+eval.Given as goal
@@ -14,8 +14,8 @@ use Rattle.mp_rules.proofs.evaluator.Evaluator.+eval.Given as goal
 abbrev pub decreases-next_front : goal.decreases-next_front
 decreases-next_front l = 2 * measure NextFront l.self.now
 
-abbrev pub decreases-operand : goal.decreases-operand
-decreases-operand l = 2 * measure (Operand l.first) l.self.now
+abbrev pub decreases-asked : goal.decreases-asked
+decreases-asked l = 2 * measure (Asked l.first) l.self.now
 
 abbrev pub decreases-symbol_list : goal.decreases-symbol_list
 decreases-symbol_list l = 2 * measure (SymbolList l.command) l.self.now
@@ -41,6 +41,9 @@ decreases-variable_name l = 2 * measure (VariableName l.symbol) l.self.now
 abbrev pub decreases-suffix : goal.decreases-suffix
 decreases-suffix l = 2 * measure (Suffix []) l.self.now
 
+abbrev pub decreases-suffix_behind : goal.decreases-suffix_behind
+decreases-suffix_behind l = 2 * measure (SuffixBehind l.count []) l.self.now
+
 abbrev pub decreases-group : goal.decreases-group
 decreases-group l = 2 * measure Group l.self.now
 
@@ -61,6 +64,12 @@ decreases-secondary l = 2 * measure Secondary l.self.now
 
 abbrev pub decreases-tertiary_rest : goal.decreases-tertiary_rest
 decreases-tertiary_rest l = 2 * measure (TertiaryRest l.left) l.self.now
+
+abbrev pub decreases-tertiary : goal.decreases-tertiary
+decreases-tertiary l = 2 * measure Tertiary l.self.now
+
+abbrev pub decreases-expression_rest : goal.decreases-expression_rest
+decreases-expression_rest l = 2 * measure (ExpressionRest l.left) l.self.now
 
 abbrev pub decreases-expression_from : goal.decreases-expression_from
 decreases-expression_from l = 2 * measure (ExpressionFrom l.first) l.self.now
@@ -90,25 +99,40 @@ abbrev pub decreases-next_primary : goal.decreases-next_primary
 decreases-next_primary l = 2 * (64 * coming l.self.now + 4) + 1
 
 abbrev pub decreases-next_expression : goal.decreases-next_expression
-decreases-next_expression l = 2 * (64 * coming l.self.now + 9) + 1
+decreases-next_expression l = 2 * (64 * coming l.self.now + 11) + 1
+
+abbrev pub decreases-next_secondary : goal.decreases-next_secondary
+decreases-next_secondary l = 2 * (64 * coming l.self.now + 6) + 1
 
 abbrev pub decreases-number : goal.decreases-number
 decreases-number l = 2 * (64 * coming l.self.now + 6) + 1
 
 abbrev pub decreases-variable : goal.decreases-variable
-decreases-variable l = 2 * (64 * coming l.self.now + 2) + 1
+decreases-variable l = 2 * (64 * coming l.self.now + 15) + 1
 
 abbrev pub decreases-parenthesis : goal.decreases-parenthesis
-decreases-parenthesis l = 2 * (64 * coming l.self.now + 9) + 2
+decreases-parenthesis l = 2 * (64 * coming l.self.now + 11) + 2
 
-abbrev pub decreases-operand_of : goal.decreases-operand_of
-decreases-operand_of l = 2 * (64 * left l.self.now + 9) + 1
+abbrev pub decreases-operand : goal.decreases-operand
+decreases-operand l = 2 * (64 * left l.self.now + 11) + 1
+
+abbrev pub decreases-answer_to : goal.decreases-answer_to
+decreases-answer_to l = 2 * (64 * left l.self.now + 11) + 2
+
+abbrev pub decreases-call_on : goal.decreases-call_on
+decreases-call_on l = 2 * (64 * coming l.self.now + 13) + 1
+
+abbrev pub decreases-joined : goal.decreases-joined
+decreases-joined l = 2 * (64 * left l.self.now + 13) + 2
 
 abbrev pub decreases-part_here : goal.decreases-part_here
 decreases-part_here l = 2 * (64 * left l.self.now) + 1
 
+abbrev pub decreases-part_behind : goal.decreases-part_behind
+decreases-part_behind l = 2 * (64 * left l.self.now) + 1
+
 abbrev pub decreases-call_named : goal.decreases-call_named
-decreases-call_named l = 2 * (64 * coming l.self.now) + 1
+decreases-call_named l = 2 * (64 * coming l.self.now + 13) + 2
 
 abbrev pub decreases-string_primary : goal.decreases-string_primary
 decreases-string_primary l = 2 * (64 * coming l.self.now) + 1
@@ -129,16 +153,16 @@ abbrev pub decreases-word_primary : goal.decreases-word_primary
 decreases-word_primary l = 2 * (64 * left l.self.now + 2) + 1
 
 abbrev pub decreases-bracketed : goal.decreases-bracketed
-decreases-bracketed l = 2 * (64 * coming l.self.now + 9) + 2
+decreases-bracketed l = 2 * (64 * coming l.self.now + 11) + 2
 
 abbrev pub decreases-side_from : goal.decreases-side_from
-decreases-side_from l = 2 * (64 * left l.self.now + 8) + 1
+decreases-side_from l = 2 * (64 * left l.self.now + 10) + 1
 
 abbrev pub decreases-interim_value : goal.decreases-interim_value
-decreases-interim_value l = 2 * (64 * coming l.self.now + 9) + 2
+decreases-interim_value l = 2 * (64 * coming l.self.now + 11) + 2
 
 abbrev pub decreases-spoken : goal.decreases-spoken
-decreases-spoken l = 2 * (64 * coming l.self.now + 9) + 2
+decreases-spoken l = 2 * (64 * coming l.self.now + 11) + 2
 
 abbrev pub invariant-secondary_rest-primaries : goal.invariant-secondary_rest-primaries
 invariant-secondary_rest-primaries l = record {
@@ -165,6 +189,19 @@ invariant-tertiary_rest-secondaries l = record {
 
 abbrev pub decreases-tertiary_rest-secondaries : goal.decreases-tertiary_rest-secondaries
 decreases-tertiary_rest-secondaries l = left l.self
+
+abbrev pub invariant-expression_rest-tertiaries : goal.invariant-expression_rest-tertiaries
+invariant-expression_rest-tertiaries l = record {
+  leads : the (ExpressionRest l.fn.left) l.fn.self ≡ the (ExpressionRest l.so_far) l.self;
+  went : left l.self ≤ left l.fn.self;
+  kept : l.self.expander.budget ≡ l.fn.self.expander.budget;
+  files : l.self.sources ≡ l.fn.self.sources;
+  grown : IsWithin (things l.fn.self) (things l.self);
+  within : IsWithin (reach l.so_far) (things l.self);
+}
+
+abbrev pub decreases-expression_rest-tertiaries : goal.decreases-expression_rest-tertiaries
+decreases-expression_rest-tertiaries l = left l.self
 
 abbrev pub invariant-chain-sides : goal.invariant-chain-sides
 invariant-chain-sides l = record {
@@ -217,6 +254,19 @@ invariant-suffix-parts l = record {
 abbrev pub decreases-suffix-parts : goal.decreases-suffix-parts
 decreases-suffix-parts l = left l.self
 
+abbrev pub invariant-suffix_behind-parts : goal.invariant-suffix_behind-parts
+invariant-suffix_behind-parts l = record {
+  leads : the (SuffixBehind l.count []) l.fn.self ≡ the (SuffixBehind l.count l.parts) l.self;
+  went : left l.self ≤ left l.fn.self;
+  kept : l.self.expander.budget ≡ l.fn.self.expander.budget;
+  files : l.self.sources ≡ l.fn.self.sources;
+  grown : IsWithin (things l.fn.self) (things l.self);
+  within : IsWithin (greatest reach_of_part l.parts) (things l.self);
+}
+
+abbrev pub decreases-suffix_behind-parts : goal.decreases-suffix_behind-parts
+decreases-suffix_behind-parts l = left l.self
+
 abbrev pub invariant-next_front-items : goal.invariant-next_front-items
 invariant-next_front-items l = record {
   leads : the NextFront l.fn.self ≡ the NextFront l.self;
@@ -229,17 +279,17 @@ invariant-next_front-items l = record {
 abbrev pub decreases-next_front-items : goal.decreases-next_front-items
 decreases-next_front-items l = coming l.self
 
-abbrev pub invariant-operand-operands : goal.invariant-operand-operands
-invariant-operand-operands l = record {
-  leads : the (Operand l.fn.first) l.fn.self ≡ the (Operand l.want) l.self;
+abbrev pub invariant-asked-operands : goal.invariant-asked-operands
+invariant-asked-operands l = record {
+  leads : the (Asked l.fn.first) l.fn.self ≡ the (Asked l.want) l.self;
   went : coming l.self ≤ coming l.fn.self;
   kept : l.self.expander.budget ≡ l.fn.self.expander.budget;
   files : l.self.sources ≡ l.fn.self.sources;
   grown : IsWithin (things l.fn.self) (things l.self);
 }
 
-abbrev pub decreases-operand-operands : goal.decreases-operand-operands
-decreases-operand-operands l = coming l.self
+abbrev pub decreases-asked-operands : goal.decreases-asked-operands
+decreases-asked-operands l = coming l.self
 
 abbrev pub invariant-variable_name-parts : goal.invariant-variable_name-parts
 invariant-variable_name-parts l = record {
