@@ -1,6 +1,6 @@
 //! Rows of `mp_expand`: what fronts a text gives, and how it stops.
 
-use mp_expand::{Answer, Expander, Front, Step, Want};
+use mp_expand::{Answer, Expander, Front, Operand, Step, Want};
 use mp_report::{Cap, SourceError};
 use mp_scaled::{Listing, NoMemory, Shared};
 use mp_symbols::Symbols;
@@ -38,6 +38,15 @@ fn symbol_of(byte: u8) -> u32 {
         b'z' => 6,
         b'g' => 7,
         b'f' => 8,
+        b'p' => 10,
+        b'h' => 11,
+        b's' => 12,
+        b'e' => 13,
+        b'j' => 14,
+        b';' => 15,
+        b'{' => 16,
+        b'}' => 17,
+        b'o' => 18,
         _ => 9,
     }
 }
@@ -76,7 +85,8 @@ fn macro_of(
 }
 
 /// Two delimiters, a comma, a backslash and two tags; `z` that stands for `a`, `g(expr x)` for x, `f(expr x, suffix y)` for
-/// y x y, and `t(text u)` for u b u.
+/// y x y, and `t(text u)` for u b u; without delimiters `p primary x` for x b, `h suffix x` for b x, `s text u` for u b u and
+/// `e expr x of y` for y b x; an operator `j`; the words `;`, `begingroup`, `endgroup` and `of`.
 fn table_of(alloc: Global) -> Result<Symbols<Meaning>, NoMemory> {
     let pair = Delimiters { left: 0, right: 1 };
     let z = macro_of(alloc, &[], Level::Plain, b"a")?;
@@ -99,6 +109,26 @@ fn table_of(alloc: Global) -> Result<Symbols<Meaning>, NoMemory> {
     table.number_of(b"g", Meaning::Macro(g))?;
     table.number_of(b"f", Meaning::Macro(f))?;
     table.number_of(b"t", Meaning::Macro(t))?;
+    let bare = [
+        (b"p", ParamKind::Primary, b"0b "),
+        (b"h", ParamKind::BareSuffix, b"b0 "),
+        (b"s", ParamKind::BareText, b"0b0"),
+        (b"e", ParamKind::ExprOf, b"1b0"),
+    ];
+    'macros: for (name, kind, body) in bare {
+        let called = macro_of(alloc, &[kind], Level::Plain, body.trim_ascii_end())?;
+        table.number_of(name, Meaning::Macro(called))?;
+    }
+    table.number_of(b"j", Meaning::Macro(macro_of(alloc, &[], Level::Primary, b"01")?))?;
+    let words = [
+        (b";", Word::Semicolon),
+        (b"{", Word::Begingroup),
+        (b"}", Word::Endgroup),
+        (b"o", Word::Of),
+    ];
+    'words: for (name, word) in words {
+        table.number_of(name, Meaning::Word(word))?;
+    }
     Ok(table)
 }
 
@@ -144,15 +174,37 @@ fn read_as(step: Step) -> Shown {
 }
 
 /// The answer to what was asked: any value, or the symbol of the front.
-fn answer_to(alloc: Global, want: Want, front: Front) -> Result<Answer, NoMemory> {
+fn answer_to(alloc: Global, operand: Operand, front: Front) -> Result<Answer, NoMemory> {
+    if let Operand::Suffix = operand {
+        let mut items = Items::new(alloc);
+        if let Front::Tag(symbol) = front {
+            items.push(Item::Symbol(symbol))?;
+        }
+        return Ok(Answer::Suffix(Shared::new(alloc, items)?));
+    }
+    Ok(Answer::Value(Shared::new(alloc, Value::Boolean(true))?))
+}
+
+/// Answers what was asked, with the front behind it, or puts that back before.
+fn answer(
+    alloc: Global,
+    expander: &mut Expander,
+    table: &Symbols<Meaning>,
+    want: Want,
+    argument: Front,
+    front: Front,
+) -> Result<Step, Stop> {
     match want {
-        Want::Expression => Ok(Answer::Value(Shared::new(alloc, Value::Boolean(true))?)),
-        Want::Suffix => {
-            let mut items = Items::new(alloc);
-            if let Front::Tag(symbol) = front {
-                items.push(Item::Symbol(symbol))?;
+        Want::Followed(operand) => expander.answer(
+            table,
+            answer_to(alloc, operand, argument)?,
+            front,
+        ),
+        Want::Last(operand) => {
+            if let Front::Tag(symbol) | Front::Word(symbol, _) = front {
+                expander.put_back(Item::Symbol(symbol))?;
             }
-            Ok(Answer::Suffix(Shared::new(alloc, items)?))
+            expander.answer(table, answer_to(alloc, operand, argument)?, Front::EndOfText)
         }
     }
 }
@@ -200,7 +252,7 @@ impl Reader {
                     argument: Some(argument),
                 },
             ) => {
-                match expander.answer(table, answer_to(alloc, want, argument)?, front)? {
+                match answer(alloc, expander, table, want, argument, front)? {
                     Step::Want(want) => self.ask(want),
                     _ => Ok(()),
                 }
@@ -247,7 +299,7 @@ fn is_end(reached: &Result<(), Stop>, end: End) -> bool {
     }
 }
 
-const ROWS: [Row; 22] = [
+const ROWS: [Row; 31] = [
     ("", "", End::Whole),
     ("a\\b\\", "ab", End::Whole),
     ("zbz", "aba", End::Whole),
@@ -274,6 +326,17 @@ const ROWS: [Row; 22] = [
     ("f(b,ab)", "", End::Unexpected),
     ("f(b,a", "", End::Unexpected),
     ("t((a)", "", End::FileEndedInText),
+    // arguments without delimiters: what is behind them stands behind the body
+    ("pab", "valuebb", End::Whole),
+    ("pppab;", "valuebbbb;", End::Whole),
+    ("hab", "bab", End::Whole),
+    ("eaoba", "valuebvaluea", End::Whole),
+    ("eab", "", End::Unexpected),
+    // a text up to the end of the statement
+    ("saba;b", "abababa;b", End::Whole),
+    ("s{a;}};", "{a;}b{a;}};", End::Whole),
+    ("s{;", "", End::FileEndedInText),
+    ("ajz", "aja", End::Whole),
 ];
 
 /// Whether the text gives these fronts and this end.
