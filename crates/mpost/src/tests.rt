@@ -1,9 +1,13 @@
 //! Rows of sources and command lines with what they give, by the objects in memory. The tables stand in the modules.
 
+mod arguments;
+mod idioms;
 mod limits;
 mod macros;
 mod names;
+mod operators;
 mod outside;
+mod suffixes;
 mod texts;
 
 use crate::top::mpost_main;

@@ -5,7 +5,7 @@ use std::alloc::{AllocError, Global};
 use std::test::Fail;
 
 /// A source text, and how many items are taken of it.
-const STEPS: [(&str, u64); 11] = [
+const STEPS: [(&str, u64); 17] = [
     ("show 1/3+2;end", 8),
     ("", 1),
     ("\n", 2),
@@ -17,6 +17,12 @@ const STEPS: [(&str, u64); 11] = [
     ("show 1/(2);end", 8),
     ("a1=2;show a[1];end", 12),
     ("numeric a[]b;end", 7),
+    ("def f expr a=a enddef;show f 1;end", 15),
+    ("def f primary a=a enddef;show f 1/(2);end", 20),
+    ("def f text t=t enddef;f show 1;end", 16),
+    ("primarydef a o b=a enddef;show 1 o 2;end", 16),
+    ("vardef z@#=1 enddef;show z.a;end", 16),
+    ("vardef z@#=1 enddef;show z[1,2];end", 16),
 ];
 
 #[test]
@@ -37,7 +43,7 @@ type Repeated = (
 );
 
 /// Names have 50 parts, strings and texts 65536 bytes.
-const LONG: [Repeated; 15] = [
+const LONG: [Repeated; 28] = [
     (
         "show a",
         ".b",
@@ -88,6 +94,79 @@ const LONG: [Repeated; 15] = [
         65438,
         "[b][b][b][b][b][b][b]",
         "[-32767.99998]\"\n",
+    ),
+    (
+        "vardef z@#=str @# enddef; show z",
+        ".b",
+        50,
+        ";",
+        ".b.b\"\n",
+    ),
+    (
+        "vardef z@#=str @# enddef; show z",
+        ".b",
+        51,
+        ";",
+        "a.mp:1: error 28 Limit Suffix 50\n",
+    ),
+    (
+        "vardef z.a@#=str @# enddef; show z.a",
+        ".b",
+        49,
+        ";",
+        ".b.b\"\n",
+    ),
+    (
+        "vardef z.a@#=str @# enddef; show z.a",
+        ".b",
+        50,
+        ";",
+        "a.mp:1: error 28 Limit Suffix 50\n",
+    ),
+    ("def f primary a=a enddef; show ", "f ", 99, "1;", ">> 1\n"),
+    (
+        "def f primary a=a enddef; show ",
+        "f ",
+        100,
+        "1;",
+        "a.mp:1: error 28 Limit Nesting 100\n",
+    ),
+    (
+        "def g expr t of p=p enddef; show ",
+        "g 1 of ",
+        99,
+        "2;",
+        ">> 2\n",
+    ),
+    (
+        "def g expr t of p=p enddef; show ",
+        "g 1 of ",
+        100,
+        "2;",
+        "a.mp:1: error 28 Limit Nesting 100\n",
+    ),
+    ("def s suffix a=a enddef; show ", "s ", 100, "x;", ">> x\n"),
+    (
+        "def s suffix a=a enddef; show ",
+        "s ",
+        101,
+        "x;",
+        "a.mp:1: error 28 Limit Nesting 100\n",
+    ),
+    ("def t text a=a enddef; show ", "t ", 200, "1;", ">> 1\n"),
+    (
+        "primarydef a o b=(a+b) enddef; show 1",
+        " o 1",
+        10000,
+        ";",
+        ">> 10001\n",
+    ),
+    (
+        "tertiarydef a o b=b enddef; show 1",
+        " o 1",
+        10000,
+        ";",
+        ">> 1\n",
     ),
     (";", "show 1;", 9362, "", ">> 1\n"),
     ("show 0", "+.5", 21843, "", ">> 10921.5\n"),

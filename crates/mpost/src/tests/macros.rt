@@ -1,6 +1,10 @@
-//! Calls of macros.
+//! Calls of macros: this table, and those of the modules `arguments`, `operators`, `suffixes` and `idioms`.
 
+use super::arguments::ARGUMENTS;
 use super::expect_texts;
+use super::idioms::IDIOMS;
+use super::operators::OPERATORS;
+use super::suffixes::SUFFIXES;
 use std::test::Fail;
 
 /// A source text, what is written and the status.
@@ -158,12 +162,12 @@ const MACROS: [(&str, &str, u8); 36] = [
     ),
     (
         "def f expr a=a enddef; show 1; f 2;",
-        ">> 1\na.mp:1: error 29 NotBuilt def\n",
+        ">> 1\na.mp:1: error 7 Unexpected \"=\" \";\"\n",
         1,
     ),
     (
         "vardef z@#=1 enddef;\nz;",
-        "a.mp:2: error 29 NotBuilt vardef\n",
+        "a.mp:2: error 7 Unexpected \"=\" \";\"\n",
         1,
     ),
     (
@@ -185,5 +189,10 @@ const MACROS: [(&str, &str, u8); 36] = [
 
 #[test]
 fn macros_are_called(rt: HostRuntime) -> Result<(), Fail> {
-    expect_texts(&rt, rt.alloc(), &MACROS)
+    let alloc = rt.alloc();
+    expect_texts(&rt, alloc, &MACROS)?;
+    expect_texts(&rt, alloc, &ARGUMENTS)?;
+    expect_texts(&rt, alloc, &OPERATORS)?;
+    expect_texts(&rt, alloc, &SUFFIXES)?;
+    expect_texts(&rt, alloc, &IDIOMS)
 }

@@ -166,22 +166,18 @@ const TEXTS: [(&str, &str, u8); 69] = [
     ),
     (
         "vardef a.b[]c@#(expr x) primary p:=\nx+p enddef; show 2;\nshow a.b3c.d;",
-        ">> 2\na.mp:3: error 29 NotBuilt vardef\n",
+        ">> 2\na.mp:3: error 15 BadArguments\n",
         1,
     ),
-    (
-        "primarydef a ** b=a*b\nenddef; show 3\n** 2;",
-        "a.mp:3: error 29 NotBuilt primarydef\n",
-        1,
-    ),
+    ("primarydef a ** b=a*b\nenddef; show 3\n** 2;", ">> 6\n", 0),
     (
         "secondarydef a dot b=a enddef; show dot;",
-        "a.mp:1: error 29 NotBuilt secondarydef\n",
+        "a.mp:1: error 7 Unexpected \"primary\" \"dot\"\n",
         1,
     ),
     (
         "tertiarydef a _on_ b=a enddef; show _on_;",
-        "a.mp:1: error 29 NotBuilt tertiarydef\n",
+        "a.mp:1: error 7 Unexpected \"primary\" \"_on_\"\n",
         1,
     ),
     (
