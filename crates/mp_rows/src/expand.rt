@@ -119,7 +119,10 @@ fn table_of(alloc: Global) -> Result<Symbols<Meaning>, NoMemory> {
         let called = macro_of(alloc, &[kind], Level::Plain, body.trim_ascii_end())?;
         table.number_of(name, Meaning::Macro(called))?;
     }
-    table.number_of(b"j", Meaning::Macro(macro_of(alloc, &[], Level::Primary, b"01")?))?;
+    table.number_of(
+        b"j",
+        Meaning::Macro(macro_of(alloc, &[], Level::Primary, b"01")?),
+    )?;
     let words = [
         (b";", Word::Semicolon),
         (b"{", Word::Begingroup),
@@ -204,7 +207,11 @@ fn answer(
             if let Front::Tag(symbol) | Front::Word(symbol, _) = front {
                 expander.put_back(Item::Symbol(symbol))?;
             }
-            expander.answer(table, answer_to(alloc, operand, argument)?, Front::EndOfText)
+            expander.answer(
+                table,
+                answer_to(alloc, operand, argument)?,
+                Front::EndOfText,
+            )
         }
     }
 }

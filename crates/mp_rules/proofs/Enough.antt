@@ -162,13 +162,13 @@ back_hand None s = refl
 front_back : (s : Machine) → left (put_front_back s) ≤ coming s
 front_back s =
     let gone : Machine = see front.EndOfText s in
-    let none = ap weight (back_hand (item_in_hand s s.front) gone) in
-    omega (arith, back_coming (item_in_hand s s.front) gone, none)
+    let none = ap weight (back_hand (item_in_hand s.string s.value s.front) gone) in
+    omega (arith, back_coming (item_in_hand s.string s.value s.front) gone, none)
 
 hand_back : (s : Machine) → left (put_hand_back s) ≤ coming s
 hand_back s =
     let gone : Machine = record s { held = None } in
-    omega (arith, front_back (put_held_back s), back_coming (item_held s s.held) gone)
+    omega (arith, front_back (put_held_back s), back_coming (item_held s.string s.value s.held) gone)
 
 put_back-agrees : (s : Machine) → Agree {A = Unit {0}} (Ok (tt, put_hand_back s)) (Ok (tt, put_hand_back s)) (λ x. Fewer (coming s))
 put_back-agrees s = given tt (put_hand_back s) (λ x. Fewer (coming s)) (record { went = omega (arith, hand_back s) })
@@ -194,14 +194,20 @@ answer_to-agrees r1 r2 (want.Last o) m s c h =
     agree-then (put_back-agrees t) (λ back u q.
     given a u (λ answer. Fewer (left s)) (record { went = omega (arith, p.went, q.went) })))
 
+-- what a call asked for was answered, with no more fronts than there were
+record Served (b : ℕ) (t u : Machine) : Type 0 where
+  went : left u ≤ b
+  on : coming u ≤ coming t
+
 -- a call that asks for more used a front, or may use what is behind it
 wanted_by-agrees : (r1 r2 : Rules) (x : Step) (b m : ℕ) (t : Machine) → left t ≤ b → 64 * (coming t + used_by_step x) + 13 < m + 64 → Below r1 r2 m
-    → Agree (wanted_by r1 x t) (wanted_by r2 x t) (λ next. Fewer b)
-wanted_by-agrees r1 r2 (step.Want w) b m t p c h = weaker (h.at (Asked w) t (omega arith)) (λ next u q. record { went = omega arith })
-wanted_by-agrees r1 r2 step.More b m t p c h = given tt t (λ next. Fewer b) (record { went = omega (arith, p) })
-wanted_by-agrees r1 r2 (step.Front x) b m t p c h = given tt t (λ next. Fewer b) (record { went = omega (arith, p) })
-wanted_by-agrees r1 r2 (step.Text bytes) b m t p c h = given tt t (λ next. Fewer b) (record { went = omega (arith, p) })
-wanted_by-agrees r1 r2 (step.Capsule v) b m t p c h = given tt t (λ next. Fewer b) (record { went = omega (arith, p) })
+    → Agree (wanted_by r1 x t) (wanted_by r2 x t) (λ next. Served b t)
+wanted_by-agrees r1 r2 (step.Want w) b m t p c h =
+    weaker (h.at (Asked w) t (omega arith)) (λ next u q. record { went = omega (arith, p, q.went); on = omega (arith, q.went) })
+wanted_by-agrees r1 r2 step.More b m t p c h = given tt t (λ next. Served b t) (record { went = p; on = omega arith })
+wanted_by-agrees r1 r2 (step.Front x) b m t p c h = given tt t (λ next. Served b t) (record { went = p; on = omega arith })
+wanted_by-agrees r1 r2 (step.Text bytes) b m t p c h = given tt t (λ next. Served b t) (record { went = p; on = omega arith })
+wanted_by-agrees r1 r2 (step.Capsule v) b m t p c h = given tt t (λ next. Served b t) (record { went = p; on = omega arith })
 
 used_step_small : (x : Step) → used_by_step x ≤ 1
 used_step_small (step.Want w) = omega arith
@@ -216,7 +222,7 @@ asked-agrees r1 r2 w s h =
     agree-then (h.at NextFront s (omega arith)) (λ first t p.
     agree-then (answer_to-agrees r1 r2 w _ t (omega (arith, p.went)) h) (λ a u q.
     agree-then (answers a u) (λ x y e.
-    wanted_by-agrees r1 r2 x (coming s) _ y (omega (arith, p.went, q.went, e.went)) (omega (arith, p.went, q.went, e.went)) h)))
+    weaker (wanted_by-agrees r1 r2 x (coming s) _ y (omega (arith, p.went, q.went, e.went)) (omega (arith, p.went, q.went, e.went)) h) (λ next z i. record { went = omega (arith, i.went) }))))
 
 -- a macro is called, and the front behind it is got
 call_on-agrees : (r1 r2 : Rules) (k : Macro) (got : List (List Item)) (m : ℕ) (s : Machine) → 64 * coming s + 13 < m → Below r1 r2 m
@@ -224,7 +230,7 @@ call_on-agrees : (r1 r2 : Rules) (k : Macro) (got : List (List Item)) (m : ℕ) 
 call_on-agrees r1 r2 k got m s c h =
     agree-then (calls k got s) (λ x t p.
     agree-then (wanted_by-agrees r1 r2 x (left t) m t (omega arith) (omega (arith, p.went, p.hand, used_step_small x)) h) (λ served u q.
-    weaker (h.at NextFront u (omega (arith, p.went, p.hand, q.went))) (λ next y e. record { went = omega (arith, p.went, p.hand, q.went, e.went) })))
+    weaker (h.at NextFront u (omega (arith, p.went, p.hand, q.on))) (λ next y e. record { went = omega (arith, p.went, p.hand, q.on, e.went) })))
 
 raw_of-agrees : (r1 r2 : Rules) (x : Taken) (s t : Machine) (k : ℕ) → coming t + k ≤ coming s → taken_cost x ≤ k → t.front ≡ front.EndOfText
     → Below r1 r2 (64 * coming s) → Agree (raw_of r1 x t) (raw_of r2 x t) (λ next. Fewer (coming s))

@@ -1,8 +1,8 @@
 -- What is left of a text, and what is given of it, speaks of no more than was there: expansion invents nothing.
-use Rattle.std.proofs.Common.{◌≡◌, ◌<◌, ℕ, List, [], ◌∷◌, Option, Some, None, Result, Ok, Err, inl, subst, refl, arith}
-use Rattle.std.specs.Prelude.{⊤, All, IfOk}
+use Rattle.std.proofs.Common.{◌≡◌, ◌<◌, ℕ, List, [], ◌∷◌, Option, Some, None, Result, Ok, Err, inl, subst, refl, ap, arith}
+use Rattle.std.specs.Prelude.{⊤, All, IfOk, OnErr}
 use Rattle.std.proofs.lemmas.List.Elements.{All-nil, All-cons, All-head, All-tail}
-use Rattle.mp_values.specs.Outcome.{OutcomeBy, Cause, Yields}
+use Rattle.mp_values.specs.Outcome.{OutcomeBy, Cause, Yields, change}
 use Rattle.mp_values.specs.declared.item.Item.{Item}
 use Rattle.mp_values.specs.declared.macros.Macro.{Macro}
 use Rattle.mp_values.specs.declared.meaning.Delimiters.{Delimiters}
@@ -318,9 +318,9 @@ module _ (n : Counts) where
         given_by reach_of_step (HoldsStep There IsInternal) result t (call m got s) gives step_given holds,
       )
 
-  -- an item that is put back speaks of what there is
-  pub back_within : (x : Item) (s : Expansion) → IsWithin (reach_of_item x) n → IsWithin (reach_of_expansion s) n → IsWithin (reach_of_expansion (put_back x s)) n
-  back_within x s hx h = within (put_back x s) ((invents_nothing There IsInternal).put_back x s hx (there s h))
+  back_left : (result : Result (Unit {0}) Stop) (s t : Expansion) → OnErr result (t ≡ s) → result ≡ Err stop.NoMemory → IsLeft s t
+  back_left (Ok x) s t err e = let never : ⊥ = cc in absurd never
+  back_left (Err made) s t err e = (inl (ap (λ (t : Expansion). t.text) err), inl (ap (λ (t : Expansion). t.requests) err))
 
   pub same_within : (s t : Expansion) → t.text ≡ s.text → t.requests ≡ s.requests → IsWithin (reach_of_expansion s) n → IsWithin (reach_of_expansion t) n
   same_within s t text requests h = rw (text, requests) h
@@ -359,3 +359,8 @@ module _ (n : Counts) where
       → IsWhole result s t → IsWithin (reach_of_macro m) n → IsWithin (greatest (greatest reach_of_item) got) n → IsWithin (reach_of_expansion s) n
       → IfOk result (λ x. IsWithin (reach_of_step x) n)
   called_given m got s t result gives whole body arguments h = (called_within n m got s t result gives whole body arguments h).1
+
+  pub back_text : (x : Item) (s t : Expansion) (result : Result (Unit {0}) Stop) → Yields result t (change (put_back x) s) → OnErr result (t ≡ s)
+      → IsWithin (reach_of_item x) n → IsWithin (reach_of_expansion s) n → IsWithin (reach_of_expansion t) n
+  back_text x s t result gives err hx h =
+      left_by n (λ done. ⊤) result s t (change (put_back x) s) gives (back_left n result s t err) (tt, (invents_nothing (There n) (IsInternal n)).put_back x s hx (there n s h)) h

@@ -1,16 +1,26 @@
 -- On names that are called: what a macro is told of its name.
-use Rattle.std.proofs.Common.{◌≡◌, ◌<◌, ◌+◌, ℕ, suc, List, [], ◌∷◌, ◌++◌, length, map, refl, ap, sym, arith}
-use Rattle.std.specs.Prelude.{take, drop}
+use Rattle.std.proofs.Common.{◌≡◌, ◌<◌, ◌+◌, ℕ, zero, suc, Bool, true, false, List, [], ◌∷◌, ◌++◌, Option, Some, None, length, map, refl, ap, sym, subst, arith}
+use Rattle.std.specs.Prelude.{take, drop, All, IfSome, if◌then◌else◌}
+use Rattle.std.specs.Option.{option_map}
+use Rattle.std.proofs.lemmas.List.Elements.{All-head, All-tail}
+use Rattle.mp_values.specs.declared.macros.Level.{Level}
+use Rattle.mp_values.specs.declared.macros.Macro.{Macro}
+use Rattle.mp_values.specs.declared.meaning.Meaning.{Meaning}
+use Rattle.mp_values.specs.declared.meaning.Meaning.TheVariants as meaning
 use Rattle.mp_values.specs.declared.item.Item.{Item}
 use Rattle.mp_values.specs.declared.item.Item.TheVariants as item
 use Rattle.mp_vartree.specs.declared.names.Part.{Part}
 use Rattle.mp_vartree.specs.declared.names.Part.TheVariants as part
 use Rattle.mp_acts.specs.Counts.{Counts, nothing, greatest, IsWithin}
 use Rattle.mp_values.specs.declared.value.Value.{Value}
-use Rattle.mp_acts.specs.Reach.{reach, reach_of_item, reach_of_part, one_symbol}
+use Rattle.mp_acts.specs.Reach.{reach, reach_of_item, reach_of_macro, reach_of_meaning, reach_of_part, one_symbol}
 use Rattle.mp_expand.specs.Advance.{items_of}
+use Rattle.mp_expand.specs.Fronts.{Table, meaning_of, joins_at, macro_at, operator_in}
+use Rattle.mp_expand.specs.declared.front.Front.{Front}
+use Rattle.mp_expand.specs.declared.front.Front.TheVariants as front
 use Rattle.mp_expand.specs.declared.step.Answer.{Answer}
 use Rattle.mp_expand.specs.declared.step.Answer.TheVariants as answer
+use Rattle.mp_rules.specs.Reach.{reach_of_maybe_macro}
 use Rattle.mp_rules.specs.Rules.{item_of_part, name_items, called_with, capsule}
 use Rattle.mp_rules.proofs.ReachLemmas.{first_within, none_in, both_within, take_within, drop_within}
 
@@ -97,3 +107,43 @@ value_within n v a is h = rw is (capsule_within n v h)
 pub suffix_within : (n : Counts) (parts : List Part) (a : Answer) → a ≡ answer.Suffix (map item_of_part parts) → IsWithin (greatest reach_of_part parts) n
     → IsWithin (greatest reach_of_item (items_of a)) n
 suffix_within n parts a is h = rw is (parts_within n parts h)
+
+-- THE OPERATORS OF USERS
+
+-- what a symbol means, by the table, speaks of what there is
+meaning_within : (n : Counts) (table : Table) (symbol : ℕ) → All (λ entry. IsWithin (reach_of_meaning entry.1) n) table → IsWithin (reach_of_meaning (meaning_of table symbol)) n
+meaning_within n [] symbol h = none_in n
+meaning_within n (entry ∷ more) zero h = All-head (λ entry. IsWithin (reach_of_meaning entry.1) n) entry more h
+meaning_within n (entry ∷ more) (suc symbol) h = meaning_within n more symbol (All-tail (λ entry. IsWithin (reach_of_meaning entry.1) n) entry more h)
+
+chosen_within : (n : Counts) (b : Bool) (k : Macro) → IsWithin (reach_of_macro k) n → IsWithin (reach_of_maybe_macro (if b then Some k else None)) n
+chosen_within n true k h = h
+chosen_within n false k h = none_in n
+
+macro_within : (n : Counts) (l : Level) (m : Meaning) → IsWithin (reach_of_meaning m) n → IsWithin (reach_of_maybe_macro (macro_at l m)) n
+macro_within n l (meaning.Word w) h = none_in n
+macro_within n l (meaning.Unbuilt name) h = none_in n
+macro_within n l meaning.NewTag h = none_in n
+macro_within n l (meaning.Tag root) h = none_in n
+macro_within n l (meaning.Internal k) h = none_in n
+macro_within n l (meaning.Left pair) h = none_in n
+macro_within n l (meaning.Right pair) h = none_in n
+macro_within n l (meaning.Macro k) h = chosen_within n (joins_at l k.level) k h
+
+pub operator_within : (n : Counts) (table : Table) (l : Level) (x : Front) → All (λ entry. IsWithin (reach_of_meaning entry.1) n) table
+    → IsWithin (reach_of_maybe_macro (operator_in table l x)) n
+operator_within n table l (front.Operator symbol) h = macro_within n l (meaning_of table symbol) (meaning_within n table symbol h)
+operator_within n table l (front.Number u) h = none_in n
+operator_within n table l front.Text h = none_in n
+operator_within n table l front.Capsule h = none_in n
+operator_within n table l (front.Word symbol w) h = none_in n
+operator_within n table l (front.Tag symbol) h = none_in n
+operator_within n table l (front.Internal symbol k) h = none_in n
+operator_within n table l (front.Left symbol pair) h = none_in n
+operator_within n table l (front.Right symbol pair) h = none_in n
+operator_within n table l front.EndOfText h = none_in n
+
+pub some_within : {A : Type 0} (n : Counts) (f : A → Macro) (r : Option A) (m : Option Macro) → option_map f r ≡ m → IsWithin (reach_of_maybe_macro m) n
+    → IfSome r (λ a. IsWithin (reach_of_macro (f a)) n)
+some_within n f (Some a) m e h = subst (λ (m : Option Macro). IsWithin (reach_of_maybe_macro m) n) (sym e) h
+some_within n f None m e h = tt

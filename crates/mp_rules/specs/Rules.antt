@@ -56,7 +56,7 @@ use Rattle.mp_expand.specs.declared.step.Step.{Step}
 use Rattle.mp_expand.specs.declared.step.Step.TheVariants as step
 use Rattle.mp_expand.specs.declared.step.Want.{Want}
 use Rattle.mp_expand.specs.declared.step.Want.TheVariants as want
-use Rattle.mp_rules.specs.Machine.{Rule}
+use Rattle.mp_rules.specs.Machine.{Machine, Rule}
 use Rattle.mp_rules.specs.Fronts.{taken_as}
 use Rattle.mp_rules.specs.Steps.{expanding, leave, see, see_string, see_value, hold, string_in_hand, value_in_hand, put_hand_back, put_bracket_back, answering, acting, internal_number, unexpected, unexpected_raw}
 use Rattle.mp_rules.specs.Chains.{settle}

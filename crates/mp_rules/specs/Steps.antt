@@ -77,31 +77,31 @@ abbrev pub value_in_hand : Rule Value
 value_in_hand s = Ok (s.value, record s { value = Vacuous })
 
 -- a front as an item of the text: a string and a value by what is in hand. The end of the text is none
-abbrev pub item_in_hand : Machine → Front → Option Item
-item_in_hand s (front.Number n) = Some (item.Number n)
-item_in_hand s front.Text = Some (item.Text s.string)
-item_in_hand s front.Capsule = Some (item.Capsule s.value)
-item_in_hand s (front.Word symbol w) = Some (item.Symbol symbol)
-item_in_hand s (front.Tag symbol) = Some (item.Symbol symbol)
-item_in_hand s (front.Internal symbol k) = Some (item.Symbol symbol)
-item_in_hand s (front.Operator symbol) = Some (item.Symbol symbol)
-item_in_hand s (front.Left symbol pair) = Some (item.Symbol symbol)
-item_in_hand s (front.Right symbol pair) = Some (item.Symbol symbol)
-item_in_hand s front.EndOfText = None
+abbrev pub item_in_hand : List ℕ → Value → Front → Option Item
+item_in_hand bytes v (front.Number n) = Some (item.Number n)
+item_in_hand bytes v front.Text = Some (item.Text bytes)
+item_in_hand bytes v front.Capsule = Some (item.Capsule v)
+item_in_hand bytes v (front.Word symbol w) = Some (item.Symbol symbol)
+item_in_hand bytes v (front.Tag symbol) = Some (item.Symbol symbol)
+item_in_hand bytes v (front.Internal symbol k) = Some (item.Symbol symbol)
+item_in_hand bytes v (front.Operator symbol) = Some (item.Symbol symbol)
+item_in_hand bytes v (front.Left symbol pair) = Some (item.Symbol symbol)
+item_in_hand bytes v (front.Right symbol pair) = Some (item.Symbol symbol)
+item_in_hand bytes v front.EndOfText = None
 
-abbrev pub item_held : Machine → Option Front → Option Item
-item_held s (Some x) = item_in_hand s x
-item_held s None = None
+abbrev pub item_held : List ℕ → Value → Option Front → Option Item
+item_held bytes v (Some x) = item_in_hand bytes v x
+item_held bytes v None = None
 
 abbrev pub put_back : Option Item → Machine → Machine
 put_back (Some x) s = record s { expander = expander.put_back x s.expander }
 put_back None s = s
 
 abbrev pub put_held_back : Machine → Machine
-put_held_back s = put_back (item_held s s.held) (record s { held = None })
+put_held_back s = put_back (item_held s.string s.value s.held) (record s { held = None })
 
 abbrev pub put_front_back : Machine → Machine
-put_front_back s = put_back (item_in_hand s s.front) (see front.EndOfText s)
+put_front_back s = put_back (item_in_hand s.string s.value s.front) (see front.EndOfText s)
 
 -- what is in hand comes to stand in front of the text again: a front, or a slash and the front that is held behind it
 abbrev pub put_hand_back : Machine → Machine

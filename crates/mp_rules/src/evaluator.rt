@@ -1,6 +1,7 @@
 //! The evaluator and its single steps.
 
-ghost use Rattle.std.specs.Prelude.{◌≡◌, ◌≢◌, ◌<◌, ◌≤◌, List, ℕ, [], ◌∷◌, Err, IfOk, OnErr, map};
+ghost use Rattle.std.specs.Prelude.{◌≡◌, ◌≢◌, ◌<◌, ◌≤◌, List, ℕ, [], ◌∷◌, Err, IfOk, IfSome, OnErr, map};
+ghost use Rattle.std.specs.Option.{option_map};
 ghost use Rattle.mp_values.specs.Outcome.{IsStop, Yields, change};
 ghost use Rattle.mp_expand.specs.Advance.{items_of};
 ghost use Rattle.mp_expand.specs.Steps.{enter};
@@ -190,13 +191,21 @@ impl Evaluator {
         self.expander.call(called, arguments)
     }
 
+    /// The macro of a user that the front in hand is between operands of a level, which is lent.
+    fn operator_in_hand(&self, level: Level) -> Option<&Shared<Macro>>
+        ensures exact { option_map (λ m. m.now) result ≡ operator_here level self.now }
+        ensures within { IfSome result (λ m. IsWithin (reach_of_macro m.now) (things self.now)) }
+    {
+        self.front.operator(self.acts.table(), level)
+    }
+
     /// The macro of a user that the front in hand is between operands of a level.
     pub(crate) fn operator(&self, level: Level) -> Result<Option<Shared<Macro>>, Stop>
         ensures exact { IfOk result (λ m. m ≡ operator_here level self.now) }
         ensures within { IfOk result (λ m. IsWithin (reach_of_maybe_macro m) (things self.now)) }
         ensures starved { OnErr result (result ≡ Err Stop.NoMemory) }
     {
-        match self.front.operator(self.acts.table(), level) {
+        match self.operator_in_hand(level) {
             Some(called) => Ok(Some(called.share()?)),
             None => Ok(None),
         }
@@ -216,7 +225,7 @@ impl Evaluator {
     /// A front as an item of the text; none at the end of the text.
     fn item_in_hand(&self, front: Front) -> Result<Option<Item>, Stop>
         requires { IsWithin (reach_of_front front) (things self.now) }
-        ensures exact { IfOk result (λ item. item ≡ steps.item_in_hand self.now front) }
+        ensures exact { IfOk result (λ item. item ≡ steps.item_in_hand self.now.string self.now.value front) }
         ensures within { IfOk result (λ item. IsWithin (reach_of_maybe_item item) (things self.now)) }
         ensures ends { IfOk result IsNoEndOrNone }
         ensures starved { OnErr result (result ≡ Err Stop.NoMemory) }
@@ -254,18 +263,34 @@ impl Evaluator {
         }
     }
 
+    /// The front that is held comes to stand in front of the text again, if there is one.
+    fn put_held_back(&mut self) -> Result<(), Stop>
+        ensures { Acts (change steps.put_held_back) result self.old self.new }
+    {
+        match self.held.take() {
+            Some(held) => {
+                let item = self.item_in_hand(held)?;
+                self.put_back(item)
+            }
+            None => Ok(()),
+        }
+    }
+
+    /// The front in hand comes to stand in front of the text again.
+    fn put_front_back(&mut self) -> Result<(), Stop>
+        ensures { Acts (change steps.put_front_back) result self.old self.new }
+    {
+        let item = self.item_in_hand(self.sign())?;
+        self.see(Front::EndOfText);
+        self.put_back(item)
+    }
+
     /// What is in hand comes to stand in front of the text again: a front, or a slash and the front held behind it.
     pub(crate) fn put_hand_back(&mut self) -> Result<(), Stop>
         ensures { Acts (change steps.put_hand_back) result self.old self.new }
     {
-        if let Some(held) = self.held.take() {
-            let item = self.item_in_hand(held)?;
-            self.put_back(item)?;
-        }
-        let front = self.front;
-        self.front = Front::EndOfText;
-        let item = self.item_in_hand(front)?;
-        self.put_back(item)
+        self.put_held_back()?;
+        self.put_front_back()
     }
 
     /// What is in hand comes to stand in front of the text again, behind a bracket and the value that was read in it.

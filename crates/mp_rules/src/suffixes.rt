@@ -1,6 +1,6 @@
 //! The parts of names behind a tag: of a variable's name, and of a declared one.
 
-ghost use Rattle.std.specs.Prelude.{◌≡◌, ◌<◌, [], Err, IfOk, OnErr};
+ghost use Rattle.std.specs.Prelude.{◌≡◌, ◌<◌, ◌+◌, [], Err, IfOk, OnErr};
 ghost use Rattle.mp_acts.specs.Counts.{IsWithin, greatest};
 ghost use Rattle.mp_acts.specs.Reach.{reach, reach_of_item, reach_of_macro, reach_of_part};
 ghost use Rattle.mp_acts.specs.State.{symbol_count};
@@ -24,6 +24,18 @@ impl Evaluator {
         ensures { Acts (rules.room_for_part count) result self.now self.now }
     {
         if count < PART_LIMIT as usize {
+            Ok(())
+        } else {
+            Err(Stop::Refused(SourceError::Limit(Cap::Suffix, PART_LIMIT)))
+        }
+    }
+
+    /// The same behind so many of a name, and so many that go on behind it.
+    fn room_behind(&self, count: usize, more: usize) -> Result<(), Stop>
+        ensures { Acts (rules.room_for_part (count + more)) result self.now self.now }
+    {
+        let limit = PART_LIMIT as usize;
+        if count < limit && more < limit - count {
             Ok(())
         } else {
             Err(Stop::Refused(SourceError::Limit(Cap::Suffix, PART_LIMIT)))
@@ -104,6 +116,7 @@ impl Evaluator {
 
     /// Calls the macro whose name was read. With `@#` at the end of its name the rest of the suffix is read first.
     #[cycle(eval)]
+    #[tactic(auto, using(crate::proofs::ReachLemmas::greatest_none))]
     fn call_named(
         &mut self,
         symbol: u32,
@@ -115,14 +128,35 @@ impl Evaluator {
         requires body { IsWithin (reach_of_macro called) (things self.old) }
         ensures { UsesName (rules.called_by the symbol parts.now called called.level) result self.old self.new }
     {
-        let behind = match called.get().level {
+        match called.get().level {
             Level::Suffixed => {
                 self.next_front()?;
-                self.suffix_behind(parts.as_slice().len())?
+                let behind = self.suffix_behind(parts.as_slice().len())?;
+                self.call_with(symbol, parts, &behind, called)
             }
-            _ => Listing::new(self.alloc),
-        };
-        let arguments = self.called_with(symbol, parts, &behind)?;
+            _ => {
+                let nothing = Listing::new(self.alloc);
+                self.call_with(symbol, parts, &nothing, called)
+            }
+        }
+    }
+
+    /// Calls the macro whose name was read, with the suffix that goes on behind it.
+    #[cycle(eval)]
+    fn call_with(
+        &mut self,
+        symbol: u32,
+        parts: &Suffix,
+        behind: &Suffix,
+        called: Shared<Macro>,
+    ) -> Result<Named, Stop>
+        requires symbol { symbol < symbol_count self.old.acts }
+        requires parts { IsWithin (greatest reach_of_part parts.now) (things self.old) }
+        requires behind { IsWithin (greatest reach_of_part behind.now) (things self.old) }
+        requires body { IsWithin (reach_of_macro called) (things self.old) }
+        ensures { UsesName (rules.called_named the symbol parts.now behind.now called) result self.old self.new }
+    {
+        let arguments = self.called_with(symbol, parts, behind)?;
         self.call_on(called, arguments)?;
         Ok(Named::Called)
     }
@@ -141,7 +175,11 @@ impl Evaluator {
 
     /// Calls a macro, and answers what it asks for; the front behind that comes to hand.
     #[cycle(eval)]
-    pub(crate) fn call_on(&mut self, called: Shared<Macro>, arguments: Arguments) -> Result<(), Stop>
+    pub(crate) fn call_on(
+        &mut self,
+        called: Shared<Macro>,
+        arguments: Arguments,
+    ) -> Result<(), Stop>
         requires body { IsWithin (reach_of_macro called) (things self.old) }
         requires arguments { IsWithin (greatest (greatest reach_of_item) arguments) (things self.old) }
         ensures { Uses (rules.call_on the called arguments) result self.old self.new }
@@ -157,12 +195,13 @@ impl Evaluator {
     fn part_behind(&mut self) -> Result<Option<Part>, Stop>
         ensures { ActsPart (rules.part_behind the) result self.old self.new }
     {
-        let part = match self.sign() {
-            Front::Tag(symbol) | Front::Internal(symbol, _) => Part::Sym(symbol),
+        let sign = self.sign();
+        let part = match &sign {
+            Front::Tag(symbol) | Front::Internal(symbol, _) => Part::Sym(*symbol),
             Front::Number(value) => Part::Sub(value.units()),
             Front::Word(bracket, Word::LeftBracket) => {
                 let value = self.next_expression()?;
-                return self.bracket_behind(bracket, value);
+                return self.bracket_behind(*bracket, value);
             }
             _ => {
                 self.put_hand_back()?;
@@ -197,7 +236,7 @@ impl Evaluator {
     {
         let mut parts = Listing::new(self.alloc);
         'parts: while let Some(part) = self.part_behind()? {
-            self.room_for_part(count.saturating_add(parts.as_slice().len()))?;
+            self.room_behind(count, parts.as_slice().len())?;
             parts.push(part)?;
             self.next_front()?;
         }

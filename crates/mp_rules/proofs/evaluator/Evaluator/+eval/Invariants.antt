@@ -131,8 +131,11 @@ decreases-part_here l = 2 * (64 * left l.self.now) + 1
 abbrev pub decreases-part_behind : goal.decreases-part_behind
 decreases-part_behind l = 2 * (64 * left l.self.now) + 1
 
+abbrev pub decreases-call_with : goal.decreases-call_with
+decreases-call_with l = 2 * (64 * coming l.self.now + 13) + 2
+
 abbrev pub decreases-call_named : goal.decreases-call_named
-decreases-call_named l = 2 * (64 * coming l.self.now + 13) + 2
+decreases-call_named l = 2 * (64 * coming l.self.now + 14) + 1
 
 abbrev pub decreases-string_primary : goal.decreases-string_primary
 decreases-string_primary l = 2 * (64 * coming l.self.now) + 1
