@@ -43,7 +43,7 @@ type Repeated = (
 );
 
 /// Names have 50 parts, strings and texts 65536 bytes.
-const LONG: [Repeated; 28] = [
+const LONG: [Repeated; 15] = [
     (
         "show a",
         ".b",
@@ -94,79 +94,6 @@ const LONG: [Repeated; 28] = [
         65438,
         "[b][b][b][b][b][b][b]",
         "[-32767.99998]\"\n",
-    ),
-    (
-        "vardef z@#=str @# enddef; show z",
-        ".b",
-        50,
-        ";",
-        ".b.b\"\n",
-    ),
-    (
-        "vardef z@#=str @# enddef; show z",
-        ".b",
-        51,
-        ";",
-        "a.mp:1: error 28 Limit Suffix 50\n",
-    ),
-    (
-        "vardef z.a@#=str @# enddef; show z.a",
-        ".b",
-        49,
-        ";",
-        ".b.b\"\n",
-    ),
-    (
-        "vardef z.a@#=str @# enddef; show z.a",
-        ".b",
-        50,
-        ";",
-        "a.mp:1: error 28 Limit Suffix 50\n",
-    ),
-    ("def f primary a=a enddef; show ", "f ", 99, "1;", ">> 1\n"),
-    (
-        "def f primary a=a enddef; show ",
-        "f ",
-        100,
-        "1;",
-        "a.mp:1: error 28 Limit Nesting 100\n",
-    ),
-    (
-        "def g expr t of p=p enddef; show ",
-        "g 1 of ",
-        99,
-        "2;",
-        ">> 2\n",
-    ),
-    (
-        "def g expr t of p=p enddef; show ",
-        "g 1 of ",
-        100,
-        "2;",
-        "a.mp:1: error 28 Limit Nesting 100\n",
-    ),
-    ("def s suffix a=a enddef; show ", "s ", 100, "x;", ">> x\n"),
-    (
-        "def s suffix a=a enddef; show ",
-        "s ",
-        101,
-        "x;",
-        "a.mp:1: error 28 Limit Nesting 100\n",
-    ),
-    ("def t text a=a enddef; show ", "t ", 200, "1;", ">> 1\n"),
-    (
-        "primarydef a o b=(a+b) enddef; show 1",
-        " o 1",
-        10000,
-        ";",
-        ">> 10001\n",
-    ),
-    (
-        "tertiarydef a o b=b enddef; show 1",
-        " o 1",
-        10000,
-        ";",
-        ">> 1\n",
     ),
     (";", "show 1;", 9362, "", ">> 1\n"),
     ("show 0", "+.5", 21843, "", ">> 10921.5\n"),
