@@ -103,6 +103,83 @@ const LONG: [Repeated; 15] = [
     ("", ";;", 32768, ";", "mpost:0: error 29 NotBuilt long\n"),
 ];
 
+/// The same, of suffixes behind a name, arguments without delimiters, and operators.
+const LONG_CALLS: [Repeated; 13] = [
+    (
+        "vardef z@#=str @# enddef; show z",
+        ".b",
+        50,
+        ";",
+        ".b.b\"\n",
+    ),
+    (
+        "vardef z@#=str @# enddef; show z",
+        ".b",
+        51,
+        ";",
+        "a.mp:1: error 28 Limit Suffix 50\n",
+    ),
+    (
+        "vardef z.a@#=str @# enddef; show z.a",
+        ".b",
+        49,
+        ";",
+        ".b.b\"\n",
+    ),
+    (
+        "vardef z.a@#=str @# enddef; show z.a",
+        ".b",
+        50,
+        ";",
+        "a.mp:1: error 28 Limit Suffix 50\n",
+    ),
+    ("def f primary a=a enddef; show ", "f ", 99, "1;", ">> 1\n"),
+    (
+        "def f primary a=a enddef; show ",
+        "f ",
+        100,
+        "1;",
+        "a.mp:1: error 28 Limit Nesting 100\n",
+    ),
+    (
+        "def g expr t of p=p enddef; show ",
+        "g 1 of ",
+        99,
+        "2;",
+        ">> 2\n",
+    ),
+    (
+        "def g expr t of p=p enddef; show ",
+        "g 1 of ",
+        100,
+        "2;",
+        "a.mp:1: error 28 Limit Nesting 100\n",
+    ),
+    ("def s suffix a=a enddef; show ", "s ", 100, "x;", ">> x\n"),
+    (
+        "def s suffix a=a enddef; show ",
+        "s ",
+        101,
+        "x;",
+        "a.mp:1: error 28 Limit Nesting 100\n",
+    ),
+    ("def t text a=a enddef; show ", "t ", 200, "1;", ">> 1\n"),
+    (
+        "primarydef a o b=(a+b) enddef; show 1",
+        " o 1",
+        10000,
+        ";",
+        ">> 10001\n",
+    ),
+    (
+        "tertiarydef a o b=b enddef; show 1",
+        " o 1",
+        10000,
+        ";",
+        ">> 1\n",
+    ),
+];
+
 fn repeated(
     alloc: Global,
     first: &str,
@@ -117,6 +194,19 @@ fn repeated(
 #[test]
 fn long_texts_end_so(rt: HostRuntime) -> Result<(), Fail> {
     for (first, piece, times, last, wanted) in LONG {
+        let text = repeated(rt.alloc(), first, piece, times, last)?;
+        let left = run_text(rt.alloc(), text.as_str())?;
+        assert!(rt;
+            left.written.as_slice().ends_with(wanted.as_bytes()),
+            "{first}{piece}"
+        );
+    }
+    Ok(())
+}
+
+#[test]
+fn long_calls_end_so(rt: HostRuntime) -> Result<(), Fail> {
+    for (first, piece, times, last, wanted) in LONG_CALLS {
         let text = repeated(rt.alloc(), first, piece, times, last)?;
         let left = run_text(rt.alloc(), text.as_str())?;
         assert!(rt;
