@@ -16,7 +16,7 @@ use Rattle.mp_solver.specs.declared.fresh.Fresh.{Fresh}
 use Rattle.mp_solver.specs.declared.fresh.Fresh.TheVariants.{Made, Limit}
 use Rattle.mp_values.specs.declared.macros.Macro.{Macro}
 use Rattle.mp_values.specs.declared.value.Value.{Value}
-use Rattle.mp_vartree.specs.Kinds.{kind_of, is_kind}
+use Rattle.mp_values.specs.Kinds.{kind_of, is_kind}
 use Rattle.mp_vartree.specs.Names.{name_cmp, pattern_cmp, pattern_of, full_name, full_pattern, begins, is_meant, is_of_root}
 use Rattle.mp_vartree.specs.Declarations.{macro_in, or_else, first_macro, is_below_macro}
 use Rattle.mp_vartree.specs.Laws.{held, PutsOne, TakesThose}

@@ -16,7 +16,7 @@ use Rattle.mp_values.specs.Outcome.{Rule, ◌>>=◌, halt, change}
 use Rattle.mp_values.specs.Refusals.{wrong_type, not_known}
 use Rattle.mp_values.specs.declared.value.Value.{Value}
 use Rattle.mp_values.specs.declared.value.Value.TheVariants.{Boolean, Numeric, Text, Unset, Vacuous}
-use Rattle.mp_vartree.specs.Kinds.{are_of_one_kind}
+use Rattle.mp_values.specs.Kinds.{are_of_one_kind}
 use Rattle.mp_acts.specs.State.{State}
 use Rattle.mp_acts.specs.Operands.{up_to_date, settled}
 use Rattle.mp_acts.specs.Arithmetic.{difference_by}

@@ -23,7 +23,7 @@ use Rattle.mp_values.specs.declared.value.Kind.{Kind}
 use Rattle.mp_values.specs.declared.value.Kind.TheVariants as kind
 use Rattle.mp_values.specs.declared.value.Value.{Value}
 use Rattle.mp_values.specs.declared.value.Value.TheVariants.{Boolean, Numeric, Text, Unset, Vacuous}
-use Rattle.mp_vartree.specs.Kinds.{kind_of, is_kind}
+use Rattle.mp_values.specs.Kinds.{kind_of, is_kind}
 use Rattle.mp_vartree.specs.Variables as variables
 use Rattle.mp_vartree.specs.Variables.{Variables, variable_at, macro_of, wanted_kind, made, made_at}
 use Rattle.mp_vartree.specs.declared.answers.BadDeclaration.{BadDeclaration}

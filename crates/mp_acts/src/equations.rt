@@ -3,7 +3,7 @@
 ghost use Rattle.std.specs.Prelude.{◌≡◌, ◌≢◌, ◌≤◌, ◌<◌, length, Ok, Err, IfOk, IfErr};
 ghost use Rattle.mp_values.specs.Outcome.{Gives, IsWhole, change, error_of, then};
 ghost use Rattle.mp_values.specs.declared.fault.Fault.TheVariants.{NoMemory as WantOfMemory};
-ghost use Rattle.mp_vartree.specs.Kinds.{are_of_one_kind};
+ghost use Rattle.mp_values.specs.Kinds.{are_of_one_kind};
 ghost use Rattle.mp_acts.specs.Counts.{IsWithin, nothing};
 ghost use Rattle.mp_acts.specs.State.{unknown_count, counts};
 ghost use Rattle.mp_acts.specs.Reach.{reach, reach_of_form};
@@ -18,8 +18,8 @@ use mp_forms::Form;
 use mp_report::{Cap, SourceError};
 use mp_scaled::Bytes;
 use mp_solver::{Equated, TERM_LIMIT};
-use mp_values::{Fault, Value};
-use mp_vartree::have_one_kind;
+use mp_values::{Fault, Value, have_one_kind};
+
 use std::snapshot::Snapshot;
 
 impl State {

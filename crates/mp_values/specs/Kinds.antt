@@ -1,5 +1,5 @@
--- The kinds of values, and the unknowns in them.
-use Rattle.std.specs.Prelude.{ℕ, Bool, false, nat_eq, List, [], map, Option, Some, None}
+-- The kinds of values.
+use Rattle.std.specs.Prelude.{ℕ, Bool, false, nat_eq, Option, Some, None}
 use Rattle.mp_values.specs.declared.value.Kind.{Kind}
 use Rattle.mp_values.specs.declared.value.Kind.TheVariants as kind
 use Rattle.mp_values.specs.declared.value.Value.{Value}
@@ -33,11 +33,3 @@ kinds_agree (Some k) other = is_kind k other
 
 abbrev pub are_of_one_kind : Value → Value → Bool
 are_of_one_kind a b = kinds_agree (kind_of a) (kind_of b)
-
--- the numbers of the unknowns in a value
-abbrev pub unknowns_in : Value → List ℕ
-unknowns_in (value.Numeric form) = map (λ term. term.serial) form.terms
-unknowns_in (value.Boolean truth) = []
-unknowns_in (value.Text bytes) = []
-unknowns_in (value.Unset k slot) = []
-unknowns_in value.Vacuous = []

@@ -1,9 +1,9 @@
 //! The kinds of values.
 
 ghost use Rattle.std.specs.Prelude.{◌≡◌};
-ghost use Rattle.mp_vartree.specs.Kinds.{kind_of, is_kind, are_of_one_kind};
+ghost use Rattle.mp_values.specs.Kinds.{kind_of, is_kind, are_of_one_kind};
 
-use mp_values::{Kind, Value};
+use crate::{Kind, Value};
 
 /// Whether a value is of that type.
 pub fn has_kind(value: &Value, kind: Kind) -> bool
