@@ -6,7 +6,7 @@ use Rattle.mp_report.specs.declared.error.SourceError.TheVariants as error
 use Rattle.mp_values.specs.Outcome.{◌>>=◌, lift, Refused}
 use Rattle.mp_values.specs.Outcome as outcomes
 use Rattle.mp_values.specs.Refusals.{bad_token}
-use Rattle.mp_values.specs.Words.{unary_of}
+use Rattle.mp_values.specs.Words.{name_of_condition, unary_of}
 use Rattle.mp_values.specs.declared.item.Item.{Item}
 use Rattle.mp_values.specs.declared.item.Item.TheVariants as item
 use Rattle.mp_values.specs.declared.meaning.Delimiters.{Delimiters}
@@ -21,7 +21,10 @@ use Rattle.mp_values.specs.declared.value.Value.{Value}
 use Rattle.mp_values.specs.declared.value.Value.TheVariants as value
 use Rattle.mp_values.specs.declared.word.Command.{Command}
 use Rattle.mp_values.specs.declared.word.Command.TheVariants as command
+use Rattle.mp_values.specs.declared.word.Condition.{Condition}
 use Rattle.mp_values.specs.declared.word.Definition.{Definition}
+use Rattle.mp_values.specs.declared.word.Expression.{Expression as ExpressionOperator}
+use Rattle.mp_values.specs.declared.word.Nullary.{Nullary}
 use Rattle.mp_values.specs.declared.word.Secondary.{Secondary as SecondaryOperator}
 use Rattle.mp_values.specs.declared.word.Secondary.TheVariants as operator
 use Rattle.mp_values.specs.declared.word.Speech.{Speech}
@@ -35,8 +38,8 @@ use Rattle.mp_vartree.specs.declared.names.Part.TheVariants as part
 use Rattle.mp_vartree.specs.declared.names.Shape.{Shape}
 use Rattle.mp_vartree.specs.declared.names.Shape.TheVariants as shape
 use Rattle.mp_acts.specs.State.{symbol_name, symbol_meaning, internal_value}
-use Rattle.mp_acts.specs.Arithmetic.{known_number, fraction}
-use Rattle.mp_acts.specs.Arithmetic as act
+use Rattle.mp_acts.specs.Numbers.{known_number, fraction}
+use Rattle.mp_acts.specs.Operators as act
 use Rattle.mp_acts.specs.Suffixes.{suffix_string, string_token, subscript}
 use Rattle.mp_acts.specs.Variables.{root_of, macro_named, read, declare, define}
 use Rattle.mp_acts.specs.Definitions.{group_symbols}
@@ -47,10 +50,12 @@ use Rattle.mp_acts.specs.Lines.{show, speak}
 use Rattle.mp_acts.specs.Groups.{begin_group, end_group, with_each, let_symbol, delimiters, interim}
 use Rattle.mp_acts.specs.declared.target.Target.TheVariants as target
 use Rattle.mp_rules.specs.Machine.{Machine, Rule, weight, held_weight, coming, left}
-use Rattle.mp_expand.specs.Fronts.{Table, begins_primary, begins_factor, secondary_in, tertiary_in, operator_in}
+use Rattle.mp_expand.specs.Fronts.{Table, begins_primary, begins_factor, secondary_in, tertiary_in, joining_in, operator_in}
 use Rattle.mp_expand.specs.Calls.{are_pair}
 use Rattle.mp_expand.specs.declared.front.Front.{Front}
 use Rattle.mp_expand.specs.declared.front.Front.TheVariants as front
+use Rattle.mp_expand.specs.declared.front.Equals.{Equals}
+use Rattle.mp_expand.specs.declared.front.Equals.TheVariants as equals
 use Rattle.mp_expand.specs.declared.step.Answer.TheVariants as answer
 use Rattle.mp_expand.specs.declared.step.Operand.{Operand}
 use Rattle.mp_expand.specs.declared.step.Operand.TheVariants as operand
@@ -72,7 +77,7 @@ use Rattle.mp_rules.specs.declared.chain_side.ChainSide.TheVariants as side
 use Rattle.mp_rules.specs.declared.named.Named.{Named}
 use Rattle.mp_rules.specs.declared.named.Named.TheVariants as named
 use Rattle.mp_rules.specs.Rules.{Rules, What, NextFront, NextRaw, Asked, NumberThen, Factor, VariableName, NameFrom, Suffix, SuffixBehind, Group, PrimaryInside, Primary, LeadingInside, Leading, SecondaryRest, Secondary, TertiaryRest, Tertiary, ExpressionRest, ExpressionFrom, Expression, ChainSide, ChainRest, Chain, ShowList, SymbolList, DeclaredName, TypeList, CommandRest, Statement, GroupStatements, Statements}
-use Rattle.mp_rules.specs.Rules.{shape_of, step_by, held_or_taken, next_front, item_of_part, value_answer, operand_of, answer_to, wanted_by, asked, raw_of, next_raw, symbol_in, raw_symbol, next_primary, next_expression, factor_by, over_by, then_by, number, room_by, room_for_part, part_on, bracket_by, bracketed, part_used, part_by, suffix_by, suffix, subscript_part, bracket_behind_by, part_behind_by, behind_on, suffix_behind, called_with, call_on, called_named, called_by, name_on, name_from_by, variable_name, variable_named, or_begun_anew, variable, closed_if, closed_by, parenthesis, group, string_primary, value_primary, internal, str_primary, applied, applied_by, primary_by, primary, variable_side_by, internal_side_by, leading_named, leading_by, leading, capsule, operator_here, joined, secondary_by, secondary, next_secondary, tertiary_by, tertiary, expression_by, expression_from, expression, side_from, chain_side, chain_on, lone_or_vacuous, chain_end, chain_by, chain, show_by, show_list, symbols_by, symbol_list, shape_on, empty_by, name_by, type_by, type_list, is_equals, equals_by, equals_in, raw_equals, let_equal, delimiter_pair, then_next, internal_in, assign_in, internal_name, assign_sign, interim_value, spoken, command_rest, definition, chain_if, statement_by, may_stand_alone, more_by, group_more, group_by, group_statements, end_by, statements, case}
+use Rattle.mp_rules.specs.Rules.{shape_of, step_by, held_or_taken, next_front, item_of_part, value_answer, truth_answer, operand_of, answer_to, wanted_by, asked, raw_of, next_raw, symbol_in, raw_symbol, next_primary, next_expression, factor_by, over_by, then_by, number, room_by, room_for_part, part_on, bracket_by, bracketed, part_used, part_by, suffix_by, suffix, subscript_part, bracket_behind_by, part_behind_by, behind_on, suffix_behind, called_with, call_on, called_named, called_by, name_on, name_from_by, variable_name, variable_named, or_begun_anew, variable, closed_if, closed_by, parenthesis, group, string_primary, value_primary, internal, constant, str_primary, applied, applied_by, primary_by, primary, variable_side_by, internal_side_by, leading_named, leading_by, leading, capsule, operator_here, joined, secondary_by, secondary, next_secondary, tertiary_by, tertiary, next_tertiary, expression_by, expression_from, expression, side_from, chain_side, chain_on, lone_or_vacuous, chain_end, chain_by, chain, show_by, show_list, symbols_by, symbol_list, shape_on, empty_by, name_by, type_by, type_list, is_equals, equals_by, equals_in, raw_equals, let_equal, delimiter_pair, then_next, internal_in, assign_in, internal_name, assign_sign, interim_value, spoken, command_rest, definition, chain_if, statement_by, may_stand_alone, more_by, group_more, group_by, group_statements, end_by, statements, case}
 use Rattle.mp_expand.specs.Laws.{cost, cost_of_first}
 use Rattle.mp_rules.specs.Promises.{from, used_by, used_by_side, used_by_part, used_by_step}
 use Rattle.mp_rules.specs.Meaning.{rule, the, depth}
@@ -177,6 +182,13 @@ value_answer-agrees : (r1 r2 : Rules) (does other : Rule Value) (s : Machine) �
     → Agree (value_answer does s) (value_answer other s) (λ answer. Fewer (left s))
 value_answer-agrees r1 r2 does other s a = agree-then a (λ v t p. given (answer.Value v) t (λ answer. Fewer (left s)) (record { went = p.went }))
 
+truth_answer-agrees : (r1 r2 : Rules) (w : Condition) (m : ℕ) (s : Machine) → 64 * left s + 11 < m → Below r1 r2 m
+    → Agree (truth_answer r1 w s) (truth_answer r2 w s) (λ answer. Fewer (left s))
+truth_answer-agrees r1 r2 w m s c h =
+    agree-then (h.at Expression s (omega arith)) (λ v t p.
+    agree-then (acted (act.truth (name_of_condition w) v t.acts) t) (λ truth u e.
+    given (answer.Truth truth) u (λ answer. Fewer (left s)) (record { went = omega (arith, p.went, e.went) })))
+
 operand_of-agrees : (r1 r2 : Rules) (o : Operand) (m : ℕ) (s : Machine) → 64 * left s + 11 < m → Below r1 r2 m
     → Agree (operand_of r1 o s) (operand_of r2 o s) (λ answer. Fewer (left s))
 operand_of-agrees r1 r2 operand.Primary m s c h = value_answer-agrees r1 r2 (r1 Primary) (r2 Primary) s (h.at Primary s (omega arith))
@@ -185,6 +197,7 @@ operand_of-agrees r1 r2 operand.Tertiary m s c h = value_answer-agrees r1 r2 (r1
 operand_of-agrees r1 r2 operand.Expression m s c h = value_answer-agrees r1 r2 (r1 Expression) (r2 Expression) s (h.at Expression s (omega arith))
 operand_of-agrees r1 r2 operand.Suffix m s c h =
     agree-then (h.at (Suffix []) s (omega arith)) (λ parts t p. given (answer.Suffix (map item_of_part parts)) t (λ answer. Fewer (left s)) (record { went = p.went }))
+operand_of-agrees r1 r2 (operand.Condition w) m s c h = truth_answer-agrees r1 r2 w m s c h
 
 answer_to-agrees : (r1 r2 : Rules) (w : Want) (m : ℕ) (s : Machine) → 64 * left s + 11 < m → Below r1 r2 m
     → Agree (answer_to r1 w s) (answer_to r2 w s) (λ answer. Fewer (left s))
@@ -504,6 +517,12 @@ internal-agrees r1 r2 k m s c h =
     agree-then (h.at NextFront s (omega arith)) (λ next t p.
     given (known_number (internal_value t.acts k)) t (λ answer. Fewer (coming s)) (record { went = omega (arith, p.went) }))
 
+constant-agrees : (r1 r2 : Rules) (w : Nullary) (m : ℕ) (s : Machine) → 64 * coming s < m → Below r1 r2 m
+    → Agree (constant r1 w s) (constant r2 w s) (λ answer. Fewer (coming s))
+constant-agrees r1 r2 w m s c h =
+    agree-then (h.at NextFront s (omega arith)) (λ next t p.
+    weaker (acted (act.nullary w t.acts) t) (λ v u e. record { went = omega (arith, p.went, e.went) }))
+
 str-agrees : (r1 r2 : Rules) (m : ℕ) (s : Machine) → 64 * coming s + 1 < m → Below r1 r2 m
     → Agree (str_primary r1 s) (str_primary r2 s) (λ answer. Fewer (coming s))
 str-agrees r1 r2 m s c h =
@@ -540,6 +559,7 @@ primary_word-agrees : (r1 r2 : Rules) (symbol : ℕ) (w : Word) (m : ℕ) (s : M
     → Agree (primary_by r1 (front.Word symbol w) s) (primary_by r2 (front.Word symbol w) s) (λ answer. Fewer (left s))
 primary_word-agrees r1 r2 symbol word.Begingroup m s e c h = weaker (h.at Group s (omega arith)) (λ v t p. record { went = omega arith })
 primary_word-agrees r1 r2 symbol word.Str m s e c h = weaker (str-agrees r1 r2 m s (omega arith) h) (λ v t p. record { went = omega arith })
+primary_word-agrees r1 r2 symbol (word.Nullary w) m s e c h = weaker (constant-agrees r1 r2 w m s (omega arith) h) (λ v t p. record { went = omega (arith, p.went) })
 primary_word-agrees r1 r2 symbol w m s e c h = applied_by-agrees r1 r2 (unary_of w) m s e c h
 
 primary_by-agrees : (r1 r2 : Rules) (x : Front) (m : ℕ) (s : Machine) → weight x ≤ weight s.front → 64 * left s + 3 ≤ m → Below r1 r2 m
@@ -638,6 +658,505 @@ tertiary_weight (front.Left symbol pair) op e = omega arith
 tertiary_weight (front.Right symbol pair) op e = omega arith
 tertiary_weight front.EndOfText op e = cc
 
+joining_weight : (e : Equals) (x : Front) (op : ExpressionOperator) → joining_in e x ≡ Some op → 1 ≤ weight x
+joining_weight e (front.Number n) op p = omega arith
+joining_weight e front.Text op p = omega arith
+joining_weight e front.Capsule op p = omega arith
+joining_weight e (front.Word symbol w) op p = omega arith
+joining_weight e (front.Tag symbol) op p = omega arith
+joining_weight e (front.Internal symbol k) op p = omega arith
+joining_weight e (front.Operator symbol) op p = omega arith
+joining_weight e (front.Left symbol pair) op p = omega arith
+joining_weight e (front.Right symbol pair) op p = omega arith
+joining_weight e front.EndOfText op p = cc
+
+operator_weight : (table : Table) (l : Level) (x : Front) (k : Macro) → operator_in table l x ≡ Some k → 1 ≤ weight x
+operator_weight table l (front.Number n) k e = omega arith
+operator_weight table l front.Text k e = omega arith
+operator_weight table l front.Capsule k e = omega arith
+operator_weight table l (front.Word symbol w) k e = omega arith
+operator_weight table l (front.Tag symbol) k e = omega arith
+operator_weight table l (front.Internal symbol i) k e = omega arith
+operator_weight table l (front.Operator symbol) k e = omega arith
+operator_weight table l (front.Left symbol pair) k e = omega arith
+operator_weight table l (front.Right symbol pair) k e = omega arith
+operator_weight table l front.EndOfText k e = cc
+
+joined-agrees : (r1 r2 : Rules) (k : Macro) (a b : Value) (m : ℕ) (s : Machine) → 64 * left s + 13 < m → Below r1 r2 m
+    → Agree (joined r1 k a b s) (joined r2 k a b s) (λ next. Fewer (left s))
+joined-agrees r1 r2 k a b m s c h =
+    agree-then (put_back-agrees s) (λ back t p.
+    weaker (call_on-agrees r1 r2 k (capsule a ∷ capsule b ∷ []) m t (omega (arith, p.went)) h) (λ next u q. record { went = omega (arith, p.went, q.went) }))
+
+secondary_by-agrees : (r1 r2 : Rules) (v : Value) (op : Option SecondaryOperator) (k : Option Macro) (m : ℕ) (s : Machine) → secondary_in s.front ≡ op
+    → operator_here level.Primary s ≡ k → 64 * left s + 5 ≤ m → Below r1 r2 m
+    → Agree (secondary_by r1 v op k s) (secondary_by r2 v op k s) (λ answer. Fewer (left s))
+secondary_by-agrees r1 r2 v (Some op) k m s e f c h =
+    let used : 1 ≤ weight s.front = secondary_weight s.front op e in
+    agree-then (next_primary-agrees r1 r2 m s (omega arith) h) (λ right t p.
+    agree-then (acted (act.secondary op v right t.acts) t) (λ both u q.
+    weaker (h.at (SecondaryRest both) u (omega arith)) (λ answer w a. record { went = omega arith })))
+secondary_by-agrees r1 r2 v None (Some k) m s e f c h =
+    let used : 1 ≤ weight s.front = operator_weight s.acts.symbols.names level.Primary s.front k f in
+    agree-then (next_primary-agrees r1 r2 m s (omega arith) h) (λ right t p.
+    agree-then (joined-agrees r1 r2 k v right m t (omega (arith, p.went)) h) (λ on u q.
+    agree-then (h.at Primary u (omega (arith, p.went, q.went))) (λ first w a.
+    weaker (h.at (SecondaryRest first) w (omega (arith, p.went, q.went, a.went))) (λ answer y d. record { went = omega (arith, p.went, q.went, a.went, d.went) }))))
+secondary_by-agrees r1 r2 v None None m s e f c h = given v s (λ answer. Fewer (left s)) (record { went = omega arith })
+
+secondary-agrees : (r1 r2 : Rules) (s : Machine) → Below r1 r2 (measure Secondary s) → Agree (secondary r1 s) (secondary r2 s) (λ answer. Fewer (left s))
+secondary-agrees r1 r2 s h =
+    agree-then (h.at Primary s (omega arith)) (λ v t p.
+    weaker (h.at (SecondaryRest v) t (omega arith)) (λ answer u q. record { went = omega arith }))
+
+next_secondary-agrees : (r1 r2 : Rules) (m : ℕ) (s : Machine) → 64 * coming s + 6 < m → Below r1 r2 m
+    → Agree (next_secondary r1 s) (next_secondary r2 s) (λ answer. Fewer (coming s))
+next_secondary-agrees r1 r2 m s c h =
+    agree-then (h.at NextFront s (omega arith)) (λ first t p.
+    weaker (h.at Secondary t (omega arith)) (λ v u q. record { went = omega arith }))
+
+tertiary_by-agrees : (r1 r2 : Rules) (v : Value) (op : Option TertiaryOperator) (k : Option Macro) (m : ℕ) (s : Machine) → tertiary_in s.front ≡ op
+    → operator_here level.Secondary s ≡ k → 64 * left s + 7 ≤ m → Below r1 r2 m
+    → Agree (tertiary_by r1 v op k s) (tertiary_by r2 v op k s) (λ answer. Fewer (left s))
+tertiary_by-agrees r1 r2 v (Some op) k m s e f c h =
+    let used : 1 ≤ weight s.front = tertiary_weight s.front op e in
+    agree-then (next_secondary-agrees r1 r2 m s (omega arith) h) (λ right t p.
+    agree-then (acted (act.tertiary op v right t.acts) t) (λ both u q.
+    weaker (h.at (TertiaryRest both) u (omega arith)) (λ answer w a. record { went = omega arith })))
+tertiary_by-agrees r1 r2 v None (Some k) m s e f c h =
+    let used : 1 ≤ weight s.front = operator_weight s.acts.symbols.names level.Secondary s.front k f in
+    agree-then (next_secondary-agrees r1 r2 m s (omega arith) h) (λ right t p.
+    agree-then (joined-agrees r1 r2 k v right m t (omega (arith, p.went)) h) (λ on u q.
+    agree-then (h.at Secondary u (omega (arith, p.went, q.went))) (λ first w a.
+    weaker (h.at (TertiaryRest first) w (omega (arith, p.went, q.went, a.went))) (λ answer y d. record { went = omega (arith, p.went, q.went, a.went, d.went) }))))
+tertiary_by-agrees r1 r2 v None None m s e f c h = given v s (λ answer. Fewer (left s)) (record { went = omega arith })
+
+tertiary-agrees : (r1 r2 : Rules) (s : Machine) → Below r1 r2 (measure Tertiary s) → Agree (tertiary r1 s) (tertiary r2 s) (λ answer. Fewer (left s))
+tertiary-agrees r1 r2 s h =
+    agree-then (h.at Secondary s (omega arith)) (λ v t p.
+    weaker (h.at (TertiaryRest v) t (omega arith)) (λ answer u q. record { went = omega arith }))
+
+next_tertiary-agrees : (r1 r2 : Rules) (m : ℕ) (s : Machine) → 64 * coming s + 8 < m → Below r1 r2 m
+    → Agree (next_tertiary r1 s) (next_tertiary r2 s) (λ answer. Fewer (coming s))
+next_tertiary-agrees r1 r2 m s c h =
+    agree-then (h.at NextFront s (omega arith)) (λ first t p.
+    weaker (h.at Tertiary t (omega (arith, p.went))) (λ v u q. record { went = omega (arith, p.went, q.went) }))
+
+expression_by-agrees : (r1 r2 : Rules) (e : Equals) (v : Value) (op : Option ExpressionOperator) (k : Option Macro) (m : ℕ) (s : Machine)
+    → joining_in e s.front ≡ op → operator_here level.Tertiary s ≡ k → 64 * left s + 9 ≤ m → Below r1 r2 m
+    → Agree (expression_by r1 e v op k s) (expression_by r2 e v op k s) (λ answer. Fewer (left s))
+expression_by-agrees r1 r2 e v (Some op) k m s d f c h =
+    let used : 1 ≤ weight s.front = joining_weight e s.front op d in
+    agree-then (next_tertiary-agrees r1 r2 m s (omega arith) h) (λ right t p.
+    agree-then (acted (act.expression op v right t.acts) t) (λ both u q.
+    weaker (h.at (ExpressionRest both e) u (omega arith)) (λ answer w a. record { went = omega arith })))
+expression_by-agrees r1 r2 e v None (Some k) m s d f c h =
+    let used : 1 ≤ weight s.front = operator_weight s.acts.symbols.names level.Tertiary s.front k f in
+    agree-then (next_tertiary-agrees r1 r2 m s (omega arith) h) (λ right t p.
+    agree-then (joined-agrees r1 r2 k v right m t (omega (arith, p.went)) h) (λ on u q.
+    agree-then (h.at Tertiary u (omega (arith, p.went, q.went))) (λ first w a.
+    weaker (h.at (ExpressionRest first e) w (omega (arith, p.went, q.went, a.went))) (λ answer y i. record { went = omega (arith, p.went, q.went, a.went, i.went) }))))
+expression_by-agrees r1 r2 e v None None m s d f c h = given v s (λ answer. Fewer (left s)) (record { went = omega arith })
+
+expression_from-agrees : (r1 r2 : Rules) (v : Value) (e : Equals) (s : Machine) → Below r1 r2 (measure (ExpressionFrom v e) s)
+    → Agree (expression_from r1 v e s) (expression_from r2 v e s) (λ answer. Fewer (left s))
+expression_from-agrees r1 r2 v e s h =
+    agree-then (h.at (SecondaryRest v) s (omega arith)) (λ second t p.
+    agree-then (h.at (TertiaryRest second) t (omega arith)) (λ third u q.
+    weaker (h.at (ExpressionRest third e) u (omega arith)) (λ answer w a. record { went = omega arith })))
+
+expression-agrees : (r1 r2 : Rules) (m : ℕ) (s : Machine) → 64 * coming s + 11 < m → Below r1 r2 m
+    → Agree (next_expression r1 s) (next_expression r2 s) (λ answer. Fewer (coming s))
+next_expression-agrees r1 r2 m s c h =
+    agree-then (h.at NextFront s (omega arith)) (λ first t p.
+    weaker (h.at Expression t (omega arith)) (λ v u q. record { went = omega arith }))
+
+factor_by-agrees : (r1 r2 : Rules) (v : Value) (begins : Bool) (m : ℕ) (s : Machine) → 64 * left s + 4 < m → Below r1 r2 m
+    → Agree (factor_by r1 v begins s) (factor_by r2 v begins s) (λ answer. Fewer (left s))
+factor_by-agrees r1 r2 v true m s c h =
+    agree-then (h.at Primary s (omega arith)) (λ right t p.
+    weaker (acted (act.secondary operator.Times v right t.acts) t) (λ both u e. record { went = omega arith }))
+factor_by-agrees r1 r2 v false m s c h = given v s (λ answer. Fewer (left s)) (record { went = omega arith })
+
+over-agrees : (r1 r2 : Rules) (n : ℤ) (slash : ℕ) (x : Front) (b m : ℕ) (t : Machine) → weight x ≤ weight t.front → left t + 1 ≤ b → 64 * b ≤ m → Below r1 r2 m
+    → Agree (over_by r1 n slash x t) (over_by r2 n slash x t) (λ answer. Fewer b)
+over-agrees r1 r2 n slash (front.Number d) b m t e p c h =
+    agree-then (h.at NextFront t (omega arith)) (λ next u q.
+    agree-then (acted (lift (fraction n d) u.acts) u) (λ v w a.
+    weaker (h.at (Factor v) w (omega arith)) (λ answer y d. record { went = omega arith })))
+over-agrees r1 r2 n slash x b m t e p c h = given (known_number n) (hold slash t) (λ answer. Fewer b) (record { went = omega arith })
+
+then_secondary-agrees : (r1 r2 : Rules) (n : ℤ) (symbol : ℕ) (op : SecondaryOperator) (m : ℕ) (s : Machine) → 1 ≤ weight s.front → 64 * left s + 6 ≤ m
+    → Below r1 r2 m
+    → Agree (then_by r1 n (front.Word symbol (word.Secondary op)) s) (then_by r2 n (front.Word symbol (word.Secondary op)) s) (λ answer. Fewer (left s))
+then_secondary-agrees r1 r2 n symbol operator.Over m s e c h =
+    agree-then (h.at NextFront s (omega arith)) (λ next t p.
+    over-agrees r1 r2 n symbol t.front (left s) m t (omega arith) (omega arith) (omega arith) h)
+then_secondary-agrees r1 r2 n symbol op m s e c h = h.at (Factor (known_number n)) s (omega arith)
+
+then_word-agrees : (r1 r2 : Rules) (n : ℤ) (symbol : ℕ) (w : Word) (m : ℕ) (s : Machine) → 1 ≤ weight s.front → 64 * left s + 6 ≤ m → Below r1 r2 m
+    → Agree (then_by r1 n (front.Word symbol w) s) (then_by r2 n (front.Word symbol w) s) (λ answer. Fewer (left s))
+then_word-agrees r1 r2 n symbol (word.Secondary op) m s e c h = then_secondary-agrees r1 r2 n symbol op m s e c h
+then_word-agrees r1 r2 n symbol w m s e c h = h.at (Factor (known_number n)) s (omega arith)
+
+then_by-agrees : (r1 r2 : Rules) (n : ℤ) (x : Front) (m : ℕ) (s : Machine) → weight x ≤ weight s.front → 64 * left s + 6 ≤ m → Below r1 r2 m
+    → Agree (then_by r1 n x s) (then_by r2 n x s) (λ answer. Fewer (left s))
+then_by-agrees r1 r2 n (front.Word symbol w) m s e c h = then_word-agrees r1 r2 n symbol w m s e c h
+then_by-agrees r1 r2 n x m s e c h = h.at (Factor (known_number n)) s (omega arith)
+
+number-agrees : (r1 r2 : Rules) (n : ℤ) (m : ℕ) (s : Machine) → 64 * coming s + 6 < m → Below r1 r2 m
+    → Agree (number r1 n s) (number r2 n s) (λ answer. Fewer (coming s))
+number-agrees r1 r2 n m s c h =
+    agree-then (h.at NextFront s (omega arith)) (λ next t p.
+    weaker (h.at (NumberThen n) t (omega arith)) (λ answer u q. record { went = omega arith }))
+
+room_by-agrees : (b : Bool) (s : Machine) → Agree (room_by b s) (room_by b s) (λ x. AsMany s)
+room_by-agrees true s = given tt s (λ x. AsMany s) (record { went = refl; hand = refl })
+room_by-agrees false s = stopped (Refused (error.Limit cap.Suffix PART_LIMIT)) s (λ x. AsMany s) tt
+
+room-agrees : (count : ℕ) (s : Machine) → Agree (room_for_part count s) (room_for_part count s) (λ x. AsMany s)
+room-agrees count s = room_by-agrees (nat_lt count PART_LIMIT) s
+
+-- where a front was used
+part_on-agrees : (r1 r2 : Rules) (parts : List Part) (p : Part) (b m : ℕ) (s : Machine) → coming s + 1 ≤ b → 64 * b + 1 ≤ m → Below r1 r2 m
+    → Agree (part_on r1 parts p s) (part_on r2 parts p s) (λ answer. Fewer b)
+part_on-agrees r1 r2 parts p b m s q c h =
+    agree-then (room-agrees (length parts) s) (λ room t a.
+    agree-then (h.at NextFront t (omega arith)) (λ next u e.
+    weaker (h.at (Suffix (parts ++ p ∷ [])) u (omega arith)) (λ answer w d. record { went = omega arith })))
+
+bracket-agrees : (x : Front) (s : Machine) → Agree (bracket_by x s) (bracket_by x s) (λ y. AsMany s)
+bracket-agrees (front.Word symbol word.RightBracket) s = given tt s (λ y. AsMany s) (record { went = refl; hand = refl })
+bracket-agrees x s = stopped (refused_front (codes "]") s) s (λ y. AsMany s) tt
+
+bracketed-agrees : (r1 r2 : Rules) (m : ℕ) (s : Machine) → 64 * coming s + 11 < m → Below r1 r2 m
+    → Agree (bracketed r1 s) (bracketed r2 s) (λ value. Fewer (coming s))
+bracketed-agrees r1 r2 m s c h =
+    agree-then (next_expression-agrees r1 r2 m s c h) (λ v u q.
+    agree-then (bracket-agrees u.front u) (λ closed w a.
+    weaker (acted (subscript v w.acts) w) (λ value y e. record { went = omega arith })))
+
+-- a part used its front
+part_used-agrees : (p : Part) (b : ℕ) (t : Machine) → coming t + 1 ≤ b
+    → Agree (part_used p t) (part_used p t) (λ answer. FewerBy b (used_by_part answer))
+part_used-agrees p b t c = given (Some p) (see front.EndOfText t) (λ answer. FewerBy b (used_by_part answer)) (record { went = omega (arith, c) })
+
+part_word-agrees : (r1 r2 : Rules) (symbol : ℕ) (w : Word) (m : ℕ) (s : Machine) → 1 ≤ weight s.front → 64 * left s + 1 ≤ m → Below r1 r2 m
+    → Agree (part_by r1 (front.Word symbol w) s) (part_by r2 (front.Word symbol w) s) (λ answer. FewerBy (left s) (used_by_part answer))
+part_word-agrees r1 r2 symbol word.LeftBracket m s e c h =
+    agree-then (bracketed-agrees r1 r2 m s (omega arith) h) (λ value t p.
+    part_used-agrees (part.Sub value) (left s) t (omega arith))
+part_word-agrees r1 r2 symbol w m s e c h = given None s (λ answer. FewerBy (left s) (used_by_part answer)) (record { went = omega arith })
+
+part_by-agrees : (r1 r2 : Rules) (x : Front) (m : ℕ) (s : Machine) → weight x ≤ weight s.front → 64 * left s + 1 ≤ m → Below r1 r2 m
+    → Agree (part_by r1 x s) (part_by r2 x s) (λ answer. FewerBy (left s) (used_by_part answer))
+part_by-agrees r1 r2 (front.Tag symbol) m s e c h = part_used-agrees (part.Sym symbol) (left s) s (omega arith)
+part_by-agrees r1 r2 (front.Internal symbol k) m s e c h = part_used-agrees (part.Sym symbol) (left s) s (omega arith)
+part_by-agrees r1 r2 (front.Number n) m s e c h = part_used-agrees (part.Sub n) (left s) s (omega arith)
+part_by-agrees r1 r2 (front.Word symbol w) m s e c h = part_word-agrees r1 r2 symbol w m s e c h
+part_by-agrees r1 r2 x m s e c h = given None s (λ answer. FewerBy (left s) (used_by_part answer)) (record { went = omega arith })
+
+suffix_by-agrees : (r1 r2 : Rules) (parts : List Part) (p : Option Part) (b m : ℕ) (t : Machine) → left t + used_by_part p ≤ b → 64 * b + 1 ≤ m → Below r1 r2 m
+    → Agree (suffix_by r1 parts p t) (suffix_by r2 parts p t) (λ answer. Fewer b)
+suffix_by-agrees r1 r2 parts None b m t q c h = given parts t (λ answer. Fewer b) (record { went = omega arith })
+suffix_by-agrees r1 r2 parts (Some p) b m t q c h = part_on-agrees r1 r2 parts p b m t (omega arith) c h
+
+suffix-agrees : (r1 r2 : Rules) (parts : List Part) (s : Machine) → Below r1 r2 (measure (Suffix parts) s)
+    → Agree (suffix r1 parts s) (suffix r2 parts s) (λ answer. Fewer (left s))
+suffix-agrees r1 r2 parts s h =
+    agree-then (part_by-agrees r1 r2 s.front _ s (omega arith) (omega arith) h) (λ p t q.
+    suffix_by-agrees r1 r2 parts p (left s) _ t q.went (omega arith) h)
+
+name_on-agrees : (r1 r2 : Rules) (symbol root : ℕ) (parts : List Part) (p : Option Part) (b m : ℕ) (t : Machine) → left t + used_by_part p ≤ b → 64 * b + 14 ≤ m
+    → Below r1 r2 m → Agree (name_on r1 symbol root parts p t) (name_on r2 symbol root parts p t) (λ answer. Fewer b)
+name_on-agrees r1 r2 symbol root parts None b m t q c h = given (named.Variable root parts) t (λ answer. Fewer b) (record { went = omega arith })
+name_on-agrees r1 r2 symbol root parts (Some p) b m t q c h =
+    agree-then (room-agrees (length parts) t) (λ room u a.
+    weaker (h.at (NameFrom symbol root (parts ++ p ∷ [])) u (omega arith)) (λ answer w e. record { went = omega arith }))
+
+subscript_part-agrees : (v : Value) (b : ℕ) (s : Machine) → left s + 1 ≤ b
+    → Agree (subscript_part v s) (subscript_part v s) (λ answer. FewerBy b (used_by_part answer))
+subscript_part-agrees v b s c =
+    agree-then (bracket-agrees s.front s) (λ closed t p.
+    agree-then (acted (subscript v t.acts) t) (λ units u q.
+    part_used-agrees (part.Sub units) b u (omega (arith, p.went, q.went))))
+
+bracket_back : (bracket : ℕ) (v : Value) (s : Machine) → left (put_bracket_back bracket v s) ≤ coming s
+bracket_back bracket v s = hand_back s
+
+bracket_word-agrees : (bracket : ℕ) (v : Value) (symbol : ℕ) (w : Word) (b : ℕ) (s : Machine) → left s + 1 ≤ b
+    → Agree (bracket_behind_by bracket v (front.Word symbol w) s) (bracket_behind_by bracket v (front.Word symbol w) s) (λ answer. FewerBy b (used_by_part answer))
+bracket_word-agrees bracket v symbol word.Comma b s c =
+    given None (put_bracket_back bracket v s) (λ answer. FewerBy b (used_by_part answer)) (record { went = omega (arith, bracket_back bracket v s) })
+bracket_word-agrees bracket v symbol w b s c = subscript_part-agrees v b s c
+
+bracket_behind-agrees : (bracket : ℕ) (v : Value) (x : Front) (b : ℕ) (s : Machine) → left s + 1 ≤ b
+    → Agree (bracket_behind_by bracket v x s) (bracket_behind_by bracket v x s) (λ answer. FewerBy b (used_by_part answer))
+bracket_behind-agrees bracket v (front.Word symbol w) b s c = bracket_word-agrees bracket v symbol w b s c
+bracket_behind-agrees bracket v x b s c = subscript_part-agrees v b s c
+
+ends_behind-agrees : (s : Machine)
+    → Agree {A = Option Part} (Ok (None, put_hand_back s)) (Ok (None, put_hand_back s)) (λ answer. FewerBy (left s) (used_by_part answer))
+ends_behind-agrees s = given None (put_hand_back s) (λ answer. FewerBy (left s) (used_by_part answer)) (record { went = omega (arith, hand_back s) })
+
+behind_word-agrees : (r1 r2 : Rules) (symbol : ℕ) (w : Word) (m : ℕ) (s : Machine) → 1 ≤ weight s.front → 64 * left s + 1 ≤ m → Below r1 r2 m
+    → Agree (part_behind_by r1 (front.Word symbol w) s) (part_behind_by r2 (front.Word symbol w) s) (λ answer. FewerBy (left s) (used_by_part answer))
+behind_word-agrees r1 r2 symbol word.LeftBracket m s e c h =
+    agree-then (next_expression-agrees r1 r2 m s (omega arith) h) (λ v t p.
+    bracket_behind-agrees symbol v t.front (left s) t (omega (arith, p.went)))
+behind_word-agrees r1 r2 symbol w m s e c h = ends_behind-agrees s
+
+part_behind-agrees : (r1 r2 : Rules) (x : Front) (m : ℕ) (s : Machine) → weight x ≤ weight s.front → 64 * left s + 1 ≤ m → Below r1 r2 m
+    → Agree (part_behind_by r1 x s) (part_behind_by r2 x s) (λ answer. FewerBy (left s) (used_by_part answer))
+part_behind-agrees r1 r2 (front.Tag symbol) m s e c h = part_used-agrees (part.Sym symbol) (left s) s (omega arith)
+part_behind-agrees r1 r2 (front.Internal symbol k) m s e c h = part_used-agrees (part.Sym symbol) (left s) s (omega arith)
+part_behind-agrees r1 r2 (front.Number n) m s e c h = part_used-agrees (part.Sub n) (left s) s (omega arith)
+part_behind-agrees r1 r2 (front.Word symbol w) m s e c h = behind_word-agrees r1 r2 symbol w m s e c h
+part_behind-agrees r1 r2 x m s e c h = ends_behind-agrees s
+
+behind_on-agrees : (r1 r2 : Rules) (count : ℕ) (parts : List Part) (p : Option Part) (b m : ℕ) (t : Machine) → left t + used_by_part p ≤ b → 64 * b + 1 ≤ m
+    → Below r1 r2 m → Agree (behind_on r1 count parts p t) (behind_on r2 count parts p t) (λ answer. Fewer b)
+behind_on-agrees r1 r2 count parts None b m t q c h = given parts t (λ answer. Fewer b) (record { went = omega arith })
+behind_on-agrees r1 r2 count parts (Some p) b m t q c h =
+    agree-then (room-agrees (count + length parts) t) (λ room u a.
+    agree-then (h.at NextFront u (omega arith)) (λ next w e.
+    weaker (h.at (SuffixBehind count (parts ++ p ∷ [])) w (omega arith)) (λ answer y d. record { went = omega arith })))
+
+suffix_behind-agrees : (r1 r2 : Rules) (count : ℕ) (parts : List Part) (s : Machine) → Below r1 r2 (measure (SuffixBehind count parts) s)
+    → Agree (suffix_behind r1 count parts s) (suffix_behind r2 count parts s) (λ answer. Fewer (left s))
+suffix_behind-agrees r1 r2 count parts s h =
+    agree-then (part_behind-agrees r1 r2 s.front _ s (omega arith) (omega arith) h) (λ p t q.
+    behind_on-agrees r1 r2 count parts p (left s) _ t q.went (omega arith) h)
+
+called_named-agrees : (r1 r2 : Rules) (symbol : ℕ) (parts behind : List Part) (k : Macro) (m : ℕ) (s : Machine) → 64 * coming s + 13 < m → Below r1 r2 m
+    → Agree (called_named r1 symbol parts behind k s) (called_named r2 symbol parts behind k s) (λ answer. Fewer (coming s))
+called_named-agrees r1 r2 symbol parts behind k m s c h =
+    agree-then (call_on-agrees r1 r2 k (called_with symbol parts behind) m s c h) (λ on t p. given named.Called t (λ answer. Fewer (coming s)) (record { went = p.went }))
+
+called_by-agrees : (r1 r2 : Rules) (symbol : ℕ) (parts : List Part) (k : Macro) (l : Level) (m : ℕ) (s : Machine) → 64 * coming s + 13 < m → Below r1 r2 m
+    → Agree (called_by r1 symbol parts k l s) (called_by r2 symbol parts k l s) (λ answer. Fewer (coming s))
+called_by-agrees r1 r2 symbol parts k level.Suffixed m s c h =
+    agree-then (h.at NextFront s (omega arith)) (λ next t p.
+    agree-then (h.at (SuffixBehind (length parts) []) t (omega (arith, p.went))) (λ behind u q.
+    weaker (called_named-agrees r1 r2 symbol parts behind k m u (omega (arith, p.went, q.went)) h) (λ answer w e. record { went = omega (arith, p.went, q.went, e.went) })))
+called_by-agrees r1 r2 symbol parts k l m s c h = called_named-agrees r1 r2 symbol parts [] k m s c h
+
+name_from_by-agrees : (r1 r2 : Rules) (symbol root : ℕ) (parts : List Part) (k : Option Macro) (m : ℕ) (s : Machine) → 64 * coming s + 14 ≤ m → Below r1 r2 m
+    → Agree (name_from_by r1 symbol root parts k s) (name_from_by r2 symbol root parts k s) (λ answer. Fewer (coming s))
+name_from_by-agrees r1 r2 symbol root parts (Some k) m s c h = called_by-agrees r1 r2 symbol parts k k.level m s (omega arith) h
+name_from_by-agrees r1 r2 symbol root parts None m s c h =
+    agree-then (h.at NextFront s (omega arith)) (λ next t p.
+    agree-then (part_by-agrees r1 r2 t.front m t (omega arith) (omega arith) h) (λ part u q.
+    name_on-agrees r1 r2 symbol root parts part (coming s) m u (omega (arith, p.went, q.went)) c h))
+
+variable_name-agrees : (r1 r2 : Rules) (symbol : ℕ) (s : Machine) → Below r1 r2 (measure (VariableName symbol) s)
+    → Agree (variable_name r1 symbol s) (variable_name r2 symbol s) (λ answer. Fewer (coming s))
+variable_name-agrees r1 r2 symbol s h =
+    agree-then (acted (root_of symbol s.acts) s) (λ root t a.
+    weaker (h.at (NameFrom symbol root []) t (omega arith)) (λ name u p. record { went = omega arith }))
+
+variable_named-agrees : (symbol : ℕ) (name : Named) (s : Machine)
+    → Agree (variable_named symbol name s) (variable_named symbol name s) (λ answer. Fewer (left s))
+variable_named-agrees symbol (named.Variable root parts) s =
+    agree-then (acted (read symbol root parts s.acts) s) (λ v t e. given (Some v) t (λ answer. Fewer (left s)) (record { went = omega arith }))
+variable_named-agrees symbol named.Called s = given None s (λ answer. Fewer (left s)) (record { went = omega arith })
+
+begun_anew-agrees : (r1 r2 : Rules) (v : Option Value) (m : ℕ) (s : Machine) → 64 * left s + 3 < m → Below r1 r2 m
+    → Agree (or_begun_anew r1 v s) (or_begun_anew r2 v s) (λ answer. Fewer (left s))
+begun_anew-agrees r1 r2 (Some v) m s c h = given v s (λ answer. Fewer (left s)) (record { went = omega arith })
+begun_anew-agrees r1 r2 None m s c h = h.at PrimaryInside s (omega arith)
+
+variable-agrees : (r1 r2 : Rules) (symbol : ℕ) (m : ℕ) (s : Machine) → 64 * coming s + 15 < m → Below r1 r2 m
+    → Agree (variable r1 symbol s) (variable r2 symbol s) (λ answer. Fewer (coming s))
+variable-agrees r1 r2 symbol m s c h =
+    agree-then {P = λ v. Fewer (coming s)} (agree-then (h.at (VariableName symbol) s (omega arith)) (λ name t p.
+    weaker (variable_named-agrees symbol name t) (λ v u e. record { went = omega (arith, p.went, e.went) }))) (λ v t p.
+    weaker (begun_anew-agrees r1 r2 v m t (omega (arith, p.went)) h) (λ answer u q. record { went = omega (arith, p.went, q.went) }))
+
+closed_if-agrees : (ok : Bool) (pair : Delimiters) (s : Machine) → Agree (closed_if ok pair s) (closed_if ok pair s) (λ answer. AsMany s)
+closed_if-agrees true pair s = given tt s (λ answer. AsMany s) (record { went = refl; hand = refl })
+closed_if-agrees false pair s = stopped (refused_front (symbol_name s.acts pair.right) s) s (λ answer. AsMany s) tt
+
+closed_by-agrees : (pair : Delimiters) (x : Front) (s : Machine) → Agree (closed_by pair x s) (closed_by pair x s) (λ answer. AsMany s)
+closed_by-agrees pair (front.Right symbol other) s = closed_if-agrees (are_pair pair other) pair s
+closed_by-agrees pair x s = stopped (refused_front (symbol_name s.acts pair.right) s) s (λ answer. AsMany s) tt
+
+parenthesis-agrees : (r1 r2 : Rules) (pair : Delimiters) (m : ℕ) (s : Machine) → 64 * coming s + 11 < m → Below r1 r2 m
+    → Agree (parenthesis r1 pair s) (parenthesis r2 pair s) (λ answer. Fewer (coming s))
+parenthesis-agrees r1 r2 pair m s c h =
+    agree-then (next_expression-agrees r1 r2 m s c h) (λ v u q.
+    agree-then (closed_by-agrees pair u.front u) (λ end t e.
+    agree-then (h.at NextFront t (omega arith)) (λ next w a.
+    given v w (λ answer. Fewer (coming s)) (record { went = omega arith }))))
+
+group-agrees : (r1 r2 : Rules) (s : Machine) → Below r1 r2 (measure Group s) → Agree (group r1 s) (group r2 s) (λ answer. Fewer (coming s))
+group-agrees r1 r2 s h =
+    let begun : Machine = record s { acts = begin_group s.acts } in
+    agree-then (h.at NextFront begun (omega arith)) (λ first t p.
+    agree-then (h.at GroupStatements t (omega arith)) (λ v u q.
+    let ended : Machine = record u { acts = end_group u.acts } in
+    agree-then (h.at NextFront ended (omega arith)) (λ next w a.
+    given v w (λ answer. Fewer (coming s)) (record { went = omega arith }))))
+
+internal-agrees : (r1 r2 : Rules) (k : ℕ) (m : ℕ) (s : Machine) → 64 * coming s < m → Below r1 r2 m
+    → Agree (internal r1 k s) (internal r2 k s) (λ answer. Fewer (coming s))
+internal-agrees r1 r2 k m s c h =
+    agree-then (h.at NextFront s (omega arith)) (λ next t p.
+    given (known_number (internal_value t.acts k)) t (λ answer. Fewer (coming s)) (record { went = omega (arith, p.went) }))
+
+constant-agrees : (r1 r2 : Rules) (w : Nullary) (m : ℕ) (s : Machine) → 64 * coming s < m → Below r1 r2 m
+    → Agree (constant r1 w s) (constant r2 w s) (λ answer. Fewer (coming s))
+constant-agrees r1 r2 w m s c h =
+    agree-then (h.at NextFront s (omega arith)) (λ next t p.
+    weaker (acted (act.nullary w t.acts) t) (λ v u e. record { went = omega (arith, p.went, e.went) }))
+
+str-agrees : (r1 r2 : Rules) (m : ℕ) (s : Machine) → 64 * coming s + 1 < m → Below r1 r2 m
+    → Agree (str_primary r1 s) (str_primary r2 s) (λ answer. Fewer (coming s))
+str-agrees r1 r2 m s c h =
+    agree-then (h.at NextFront s (omega arith)) (λ first t p.
+    agree-then (h.at (Suffix []) t (omega arith)) (λ name u q.
+    weaker (acted (suffix_string name u.acts) u) (λ text w e. record { went = omega arith })))
+
+string_primary-agrees : (r1 r2 : Rules) (m : ℕ) (s : Machine) → 64 * coming s < m → Below r1 r2 m
+    → Agree (string_primary r1 s) (string_primary r2 s) (λ answer. Fewer (coming s))
+string_primary-agrees r1 r2 m s c h =
+    let read : Machine = record s { string = [] } in
+    agree-then (h.at NextFront read (omega arith)) (λ next t p.
+    weaker (acted (string_token s.string t.acts) t) (λ v u e. record { went = omega arith }))
+
+value_primary-agrees : (r1 r2 : Rules) (m : ℕ) (s : Machine) → 64 * coming s < m → Below r1 r2 m
+    → Agree (value_primary r1 s) (value_primary r2 s) (λ answer. Fewer (coming s))
+value_primary-agrees r1 r2 m s c h =
+    let read : Machine = record s { value = value.Vacuous } in
+    agree-then (h.at NextFront read (omega arith)) (λ next t p.
+    given s.value t (λ answer. Fewer (coming s)) (record { went = omega arith }))
+
+applied-agrees : (r1 r2 : Rules) (op : UnaryOperator) (m : ℕ) (s : Machine) → 64 * coming s + 4 < m → Below r1 r2 m
+    → Agree (applied r1 op s) (applied r2 op s) (λ answer. Fewer (coming s))
+applied-agrees r1 r2 op m s c h =
+    agree-then (next_primary-agrees r1 r2 m s c h) (λ right t p.
+    weaker (acted (act.unary op right t.acts) t) (λ v u e. record { went = omega arith }))
+
+applied_by-agrees : (r1 r2 : Rules) (op : Option UnaryOperator) (m : ℕ) (s : Machine) → 1 ≤ weight s.front → 64 * left s + 3 ≤ m → Below r1 r2 m
+    → Agree (applied_by r1 op s) (applied_by r2 op s) (λ answer. Fewer (left s))
+applied_by-agrees r1 r2 (Some op) m s e c h = weaker (applied-agrees r1 r2 op m s (omega arith) h) (λ v t p. record { went = omega arith })
+applied_by-agrees r1 r2 None m s e c h = stopped (refused_front (codes "primary") s) s (λ answer. Fewer (left s)) tt
+
+primary_word-agrees : (r1 r2 : Rules) (symbol : ℕ) (w : Word) (m : ℕ) (s : Machine) → 1 ≤ weight s.front → 64 * left s + 3 ≤ m → Below r1 r2 m
+    → Agree (primary_by r1 (front.Word symbol w) s) (primary_by r2 (front.Word symbol w) s) (λ answer. Fewer (left s))
+primary_word-agrees r1 r2 symbol word.Begingroup m s e c h = weaker (h.at Group s (omega arith)) (λ v t p. record { went = omega arith })
+primary_word-agrees r1 r2 symbol word.Str m s e c h = weaker (str-agrees r1 r2 m s (omega arith) h) (λ v t p. record { went = omega arith })
+primary_word-agrees r1 r2 symbol (word.Nullary w) m s e c h = weaker (constant-agrees r1 r2 w m s (omega arith) h) (λ v t p. record { went = omega (arith, p.went) })
+primary_word-agrees r1 r2 symbol w m s e c h = applied_by-agrees r1 r2 (unary_of w) m s e c h
+
+primary_by-agrees : (r1 r2 : Rules) (x : Front) (m : ℕ) (s : Machine) → weight x ≤ weight s.front → 64 * left s + 3 ≤ m → Below r1 r2 m
+    → Agree (primary_by r1 x s) (primary_by r2 x s) (λ answer. Fewer (left s))
+primary_by-agrees r1 r2 (front.Number n) m s e c h = weaker (number-agrees r1 r2 n m s (omega arith) h) (λ v t p. record { went = omega arith })
+primary_by-agrees r1 r2 front.Text m s e c h = weaker (string_primary-agrees r1 r2 m s (omega arith) h) (λ v t p. record { went = omega arith })
+primary_by-agrees r1 r2 front.Capsule m s e c h = weaker (value_primary-agrees r1 r2 m s (omega arith) h) (λ v t p. record { went = omega arith })
+primary_by-agrees r1 r2 (front.Word symbol w) m s e c h = primary_word-agrees r1 r2 symbol w m s e c h
+primary_by-agrees r1 r2 (front.Tag symbol) m s e c h = weaker (variable-agrees r1 r2 symbol m s (omega arith) h) (λ v t p. record { went = omega arith })
+primary_by-agrees r1 r2 (front.Internal symbol k) m s e c h = weaker (internal-agrees r1 r2 k m s (omega arith) h) (λ v t p. record { went = omega arith })
+primary_by-agrees r1 r2 (front.Left symbol pair) m s e c h = weaker (parenthesis-agrees r1 r2 pair m s (omega arith) h) (λ v t p. record { went = omega arith })
+primary_by-agrees r1 r2 x m s e c h = stopped (refused_front (codes "primary") s) s (λ answer. Fewer (left s)) tt
+
+primary-agrees : (r1 r2 : Rules) (s : Machine) → Below r1 r2 (measure Primary s) → Agree (primary r1 s) (primary r2 s) (λ answer. Fewer (left s))
+primary-agrees r1 r2 s h =
+    agree-then (entered s) (λ one t p.
+    agree-then (h.at PrimaryInside t (omega arith)) (λ v u q.
+    given v (leave u) (λ answer. Fewer (left s)) (record { went = omega arith })))
+
+variable_word-agrees : (symbol root : ℕ) (parts : List Part) (k : ℕ) (w : Word) (s : Machine)
+    → Agree (variable_side_by symbol root parts (front.Word k w) s) (variable_side_by symbol root parts (front.Word k w) s) (λ answer. Fewer (left s))
+variable_word-agrees symbol root parts k word.Assign s = given (side.Target (target.Variable root parts)) s (λ answer. Fewer (left s)) (record { went = omega arith })
+variable_word-agrees symbol root parts k w s =
+    agree-then (acted (read symbol root parts s.acts) s) (λ v t e.
+    given (side.Value v) t (λ answer. Fewer (left s)) (record { went = omega arith }))
+
+variable_by-agrees : (symbol root : ℕ) (parts : List Part) (x : Front) (s : Machine)
+    → Agree (variable_side_by symbol root parts x s) (variable_side_by symbol root parts x s) (λ answer. Fewer (left s))
+variable_by-agrees symbol root parts (front.Word k w) s = variable_word-agrees symbol root parts k w s
+variable_by-agrees symbol root parts x s =
+    agree-then (acted (read symbol root parts s.acts) s) (λ v t e.
+    given (side.Value v) t (λ answer. Fewer (left s)) (record { went = omega arith }))
+
+internal_word-agrees : (k symbol : ℕ) (w : Word) (s : Machine)
+    → Agree (internal_side_by k (front.Word symbol w) s) (internal_side_by k (front.Word symbol w) s) (λ answer. Fewer (left s))
+internal_word-agrees k symbol word.Assign s = given (side.Target (target.Internal k)) s (λ answer. Fewer (left s)) (record { went = omega arith })
+internal_word-agrees k symbol w s = given (side.Value (known_number (internal_value s.acts k))) s (λ answer. Fewer (left s)) (record { went = omega arith })
+
+internal_by-agrees : (k : ℕ) (x : Front) (s : Machine) → Agree (internal_side_by k x s) (internal_side_by k x s) (λ answer. Fewer (left s))
+internal_by-agrees k (front.Word symbol w) s = internal_word-agrees k symbol w s
+internal_by-agrees k x s = given (side.Value (known_number (internal_value s.acts k))) s (λ answer. Fewer (left s)) (record { went = omega arith })
+
+used_small : (x : Side) → used_by_side x ≤ 1
+used_small (side.Target t) = omega arith
+used_small (side.Value v) = omega arith
+
+leading_named-agrees : (r1 r2 : Rules) (symbol : ℕ) (name : Named) (m : ℕ) (s : Machine) → 64 * left s + 4 < m → Below r1 r2 m
+    → Agree (leading_named r1 symbol name s) (leading_named r2 symbol name s) (λ answer. FewerBy (left s + 1) (used_by_side answer))
+leading_named-agrees r1 r2 symbol (named.Variable root parts) m s c h =
+    weaker (variable_by-agrees symbol root parts s.front s) (λ answer u q. record { went = omega (arith, q.went, used_small answer) })
+leading_named-agrees r1 r2 symbol named.Called m s c h = weaker (h.at LeadingInside s (omega arith)) (λ answer u q. record { went = omega (arith, q.went) })
+
+leading_by-agrees : (r1 r2 : Rules) (x : Front) (m : ℕ) (s : Machine) → weight x ≤ weight s.front → 64 * left s + 4 ≤ m → Below r1 r2 m
+    → Agree (leading_by r1 x s) (leading_by r2 x s) (λ answer. FewerBy (left s) (used_by_side answer))
+leading_by-agrees r1 r2 (front.Tag symbol) m s e c h =
+    agree-then (h.at (VariableName symbol) s (omega arith)) (λ name t p.
+    weaker (leading_named-agrees r1 r2 symbol name m t (omega (arith, p.went)) h) (λ answer u q. record { went = omega (arith, p.went, q.went) }))
+leading_by-agrees r1 r2 (front.Internal symbol k) m s e c h =
+    agree-then (h.at NextFront s (omega arith)) (λ next t p.
+    weaker (internal_by-agrees k t.front t) (λ answer u q. record { went = omega (arith, used_small answer) }))
+leading_by-agrees r1 r2 x m s e c h =
+    agree-then (h.at PrimaryInside s (omega arith)) (λ v t p.
+    given (side.Value v) t (λ answer. FewerBy (left s) (used_by_side answer)) (record { went = omega (arith, p.went) }))
+
+leading-agrees : (r1 r2 : Rules) (s : Machine) → Below r1 r2 (measure Leading s)
+    → Agree (leading r1 s) (leading r2 s) (λ answer. FewerBy (left s) (used_by_side answer))
+leading-agrees r1 r2 s h =
+    agree-then (entered s) (λ one t p.
+    agree-then (h.at LeadingInside t (omega arith)) (λ answer u q.
+    given answer (leave u) (λ answer. FewerBy (left s) (used_by_side answer)) (record { went = omega (arith, p.went, q.went) })))
+
+-- SECONDARIES, TERTIARIES, EXPRESSIONS
+
+-- an operator took a step
+secondary_weight : (x : Front) (op : SecondaryOperator) → secondary_in x ≡ Some op → 1 ≤ weight x
+secondary_weight (front.Number n) op e = omega arith
+secondary_weight front.Text op e = omega arith
+secondary_weight front.Capsule op e = omega arith
+secondary_weight (front.Word symbol w) op e = omega arith
+secondary_weight (front.Tag symbol) op e = omega arith
+secondary_weight (front.Internal symbol k) op e = omega arith
+secondary_weight (front.Operator symbol) op e = omega arith
+secondary_weight (front.Left symbol pair) op e = omega arith
+secondary_weight (front.Right symbol pair) op e = omega arith
+secondary_weight front.EndOfText op e = cc
+
+tertiary_weight : (x : Front) (op : TertiaryOperator) → tertiary_in x ≡ Some op → 1 ≤ weight x
+tertiary_weight (front.Number n) op e = omega arith
+tertiary_weight front.Text op e = omega arith
+tertiary_weight front.Capsule op e = omega arith
+tertiary_weight (front.Word symbol w) op e = omega arith
+tertiary_weight (front.Tag symbol) op e = omega arith
+tertiary_weight (front.Internal symbol k) op e = omega arith
+tertiary_weight (front.Operator symbol) op e = omega arith
+tertiary_weight (front.Left symbol pair) op e = omega arith
+tertiary_weight (front.Right symbol pair) op e = omega arith
+tertiary_weight front.EndOfText op e = cc
+
+joining_weight : (e : Equals) (x : Front) (op : ExpressionOperator) → joining_in e x ≡ Some op → 1 ≤ weight x
+joining_weight e (front.Number n) op p = omega arith
+joining_weight e front.Text op p = omega arith
+joining_weight e front.Capsule op p = omega arith
+joining_weight e (front.Word symbol w) op p = omega arith
+joining_weight e (front.Tag symbol) op p = omega arith
+joining_weight e (front.Internal symbol k) op p = omega arith
+joining_weight e (front.Operator symbol) op p = omega arith
+joining_weight e (front.Left symbol pair) op p = omega arith
+joining_weight e (front.Right symbol pair) op p = omega arith
+joining_weight e front.EndOfText op p = cc
+
 operator_weight : (table : Table) (l : Level) (x : Front) (k : Macro) → operator_in table l x ≡ Some k → 1 ≤ weight x
 operator_weight table l (front.Number n) k e = omega arith
 operator_weight table l front.Text k e = omega arith
@@ -725,7 +1244,7 @@ expression_from-agrees r1 r2 v s h =
 expression-agrees : (r1 r2 : Rules) (s : Machine) → Below r1 r2 (measure Expression s) → Agree (expression r1 s) (expression r2 s) (λ answer. Fewer (left s))
 expression-agrees r1 r2 s h =
     agree-then (h.at Primary s (omega arith)) (λ v t p.
-    weaker (h.at (ExpressionFrom v) t (omega arith)) (λ answer u q. record { went = omega arith }))
+    weaker (h.at (ExpressionFrom v equals.Compares) t (omega arith)) (λ answer u q. record { went = omega arith }))
 
 -- EQUATIONS AND ASSIGNMENTS
 
@@ -733,7 +1252,7 @@ side_from-agrees : (r1 r2 : Rules) (begun : Side) (m : ℕ) (s : Machine) → 64
     → Agree (side_from r1 begun s) (side_from r2 begun s) (λ answer. FewerBy (left s + used_by_side begun) (used_by_side answer))
 side_from-agrees r1 r2 (side.Target to) m s c h = given (side.Target to) s (λ answer. FewerBy (left s + 1) (used_by_side answer)) (record { went = omega arith })
 side_from-agrees r1 r2 (side.Value v) m s c h =
-    agree-then (h.at (ExpressionFrom v) s (omega arith)) (λ w t p.
+    agree-then (h.at (ExpressionFrom v equals.Ends) s (omega arith)) (λ w t p.
     given (side.Value w) t (λ answer. FewerBy (left s + 0) (used_by_side answer)) (record { went = omega arith }))
 
 chain_side-agrees : (r1 r2 : Rules) (s : Machine) → Below r1 r2 (measure ChainSide s)
@@ -1079,8 +1598,8 @@ case-agrees r1 r2 (SecondaryRest v) s h = secondary_by-agrees r1 r2 v (secondary
 case-agrees r1 r2 Secondary s h = secondary-agrees r1 r2 s h
 case-agrees r1 r2 (TertiaryRest v) s h = tertiary_by-agrees r1 r2 v (tertiary_in s.front) (operator_here level.Secondary s) _ s refl refl (omega arith) h
 case-agrees r1 r2 Tertiary s h = tertiary-agrees r1 r2 s h
-case-agrees r1 r2 (ExpressionRest v) s h = expression_by-agrees r1 r2 v (operator_here level.Tertiary s) _ s refl (omega arith) h
-case-agrees r1 r2 (ExpressionFrom v) s h = expression_from-agrees r1 r2 v s h
+case-agrees r1 r2 (ExpressionRest v e) s h = expression_by-agrees r1 r2 e v (joining_in e s.front) (operator_here level.Tertiary s) _ s refl refl (omega arith) h
+case-agrees r1 r2 (ExpressionFrom v e) s h = expression_from-agrees r1 r2 v e s h
 case-agrees r1 r2 Expression s h = expression-agrees r1 r2 s h
 case-agrees r1 r2 ChainSide s h = chain_side-agrees r1 r2 s h
 case-agrees r1 r2 (ChainRest before last) s h = chain_by-agrees r1 r2 before last s.front _ s (omega arith) (omega arith) h
