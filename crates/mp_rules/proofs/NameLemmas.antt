@@ -15,14 +15,14 @@ use Rattle.mp_acts.specs.Counts.{Counts, nothing, greatest, IsWithin}
 use Rattle.mp_values.specs.declared.value.Value.{Value}
 use Rattle.mp_values.specs.declared.value.Value.TheVariants as value
 use Rattle.mp_acts.specs.Reach.{reach, reach_of_item, reach_of_macro, reach_of_meaning, reach_of_part, one_symbol}
-use Rattle.mp_expand.specs.Advance.{items_of}
+use Rattle.mp_expand.specs.Advance.{items_of, capsule}
 use Rattle.mp_expand.specs.Fronts.{Table, meaning_of, joins_at, macro_at, operator_in}
 use Rattle.mp_expand.specs.declared.front.Front.{Front}
 use Rattle.mp_expand.specs.declared.front.Front.TheVariants as front
 use Rattle.mp_expand.specs.declared.step.Answer.{Answer}
 use Rattle.mp_expand.specs.declared.step.Answer.TheVariants as answer
 use Rattle.mp_rules.specs.Reach.{reach_of_maybe_macro}
-use Rattle.mp_rules.specs.Rules.{item_of_part, name_items, called_with, capsule}
+use Rattle.mp_rules.specs.Rules.{item_of_part, name_items, called_with}
 use Rattle.mp_rules.proofs.ReachLemmas.{first_within, none_in, both_within, take_within, drop_within}
 
 -- a value in place of an expression speaks of what the value does

@@ -50,7 +50,7 @@ use Rattle.mp_acts.specs.declared.target.Target.TheVariants as target
 use Rattle.mp_expand.specs.Fronts.{secondary_in, tertiary_in, joining_in, operator_in, begins_primary, begins_factor}
 use Rattle.mp_expand.specs.Steps.{take_first, enter}
 use Rattle.mp_expand.specs.Calls.{are_pair, call}
-use Rattle.mp_expand.specs.Advance.{advance}
+use Rattle.mp_expand.specs.Advance.{advance, capsule}
 use Rattle.mp_expand.specs.declared.step.Answer.{Answer as Given}
 use Rattle.mp_expand.specs.declared.step.Answer.TheVariants as answer
 use Rattle.mp_expand.specs.declared.step.Operand.{Operand}
@@ -636,10 +636,6 @@ leading rule = do
   give p
 
 -- SECONDARIES, TERTIARIES, EXPRESSIONS
-
--- a value in place of its expression, in a text
-abbrev pub capsule : Value → List Item
-capsule v = item.Capsule v ∷ []
 
 -- the macro of a user that the front in hand is between operands of a level
 abbrev pub operator_here : Level → Machine → Option Macro
