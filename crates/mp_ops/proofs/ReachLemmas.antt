@@ -16,8 +16,7 @@ use Rattle.mp_pool.specs.Terms.{joint_term, lone_term, changed_terms, with_term,
 use Rattle.mp_forms.specs.Forms.{LinearForm, within_limits, changed_form, sum_of, form_times_scaled, form_over_scaled}
 use Rattle.mp_solver.specs.States.{States, form_of, IsOver}
 use Rattle.mp_solver.specs.Reduction.{independent_part, with_form, with_term_of, reduce_of}
-use Rattle.mp_values.specs.declared.value.Value.TheVariants.{Numeric}
-use Rattle.mp_ops.specs.Store.{Store, IsIn, reach_of_serial, reach_of_terms, reach_of_form, reach_of_known}
+use Rattle.mp_ops.specs.Store.{reach_of_serial, reach_of_terms, reach_of_form, reach_of_known}
 
 -- a serial that unknowns reach is one of theirs
 pub serial_within : (serial n : ℕ) → n ≤ 1000000 → reach_of_serial serial ≤ n → (1 ≤ serial) × (serial ≤ n)
@@ -154,7 +153,3 @@ fold_within states n (Ok p) (t ∷ ts) forms h =
 pub reduce_within : (states : States) (n : ℕ) (p : LinearForm) → All (λ known. reach_of_known known ≤ n) states → reach_of_form p ≤ n → Within n (reduce_of states p)
 reduce_within states n p forms h =
     fold_within states n (Ok (independent_part states p)) p.terms forms (omega (arith, reach-filter (λ t. is_none (form_of states t.serial)) p.terms))
-
--- a number speaks of the unknowns of its form alone
-pub number_in : (s : Store) (p : LinearForm) → reach_of_form p ≤ length s.unknowns → IsIn (Numeric p) s
-number_in s p h = record { unknowns = h; slots = omega arith }

@@ -1,7 +1,7 @@
 //! Sums, products and quotients of numbers.
 
 ghost use Rattle.std.specs.Prelude.{◌≡◌, ◌≤◌, ◌<◌, ◌^◌, length, unsigned_abs, IfOk};
-ghost use Rattle.mp_forms.specs.Forms.{form_times_scaled};
+ghost use Rattle.mp_forms.specs.Forms.{form_times_scaled, form_over_scaled};
 ghost use Rattle.mp_values.specs.Outcome.{Gives, lift};
 ghost use Rattle.mp_ops.specs.Store.{IsIn, reach_of_form};
 ghost use Rattle.mp_ops.specs.Operands as operands;
@@ -44,7 +44,10 @@ impl<'a> Store<'a> {
         ensures within { IfOk result (λ v. IsIn v self.now) }
     {
         let (p, q) = self.owned_forms(op, left, right)?;
-        Ok(Value::Numeric(self.combined(ONE, p, &q)?))
+        match self.combined(ONE, p, &q) {
+            Ok(sum) => Ok(Value::Numeric(sum)),
+            Err(fault) => Err(fault),
+        }
     }
 
     pub(crate) fn subtracted(&self, op: &[u8], left: Value, right: &Value) -> Result<Value, Fault>
@@ -55,7 +58,10 @@ impl<'a> Store<'a> {
         ensures within { IfOk result (λ v. IsIn v self.now) }
     {
         let (p, q) = self.owned_forms(op, left, right)?;
-        Ok(Value::Numeric(self.combined(-ONE, p, &q)?))
+        match self.combined(-ONE, p, &q) {
+            Ok(difference) => Ok(Value::Numeric(difference)),
+            Err(fault) => Err(fault),
+        }
     }
 
     /// The difference of two numbers as a form, for that operator: `WrongType`, `CoefficientTooLarge`, `Overflow`.
@@ -126,8 +132,20 @@ impl<'a> Store<'a> {
             (joined operands.form operands.number op.now arithmetic.quotient left.now right.now self.now) }
         ensures within { IfOk result (λ v. IsIn v self.now) }
     {
-        let (p, q) = self.forms(op, left, right)?;
-        let divisor = self.known(op, &q)?;
-        Ok(Value::Numeric(p.divide_by(self.alloc, divisor)??))
+        let (p, divisor) = self.form_and_number(op, left, right)?;
+        match self.divided(&p, divisor) {
+            Ok(quotient) => Ok(Value::Numeric(quotient)),
+            Err(fault) => Err(fault),
+        }
+    }
+
+    /// A form divided by a known number, in units of 2^-16.
+    fn divided(&self, form: &Form, divisor: i32) -> Result<Form, Fault>
+        requires { reach_of_form form.now ≤ length self.now.unknowns }
+        ensures exact { Gives result self.now
+            (lift (operands.or_refused (form_over_scaled divisor form.now)) self.now) }
+        ensures within { IfOk result (λ p. reach_of_form p ≤ length self.now.unknowns) }
+    {
+        Ok(form.divide_by(self.alloc, divisor)??)
     }
 }

@@ -42,7 +42,6 @@ fn terms_of(alloc: Global, form: &Form) -> Result<Form, NoMemory>
 }
 
 /// Whether the difference of two numbers has no unknowns. Without any in both it takes no memory.
-#[tactic(auto, using(crate::proofs::ComparisonLemmas::none_between, crate::proofs::ComparisonLemmas::left_of_terms, crate::proofs::ComparisonLemmas::refused_has_terms))]
 fn differ_by_a_number(alloc: Global, p: &Form, q: &Form) -> Result<bool, NoMemory>
     ensures { IfOk result (λ b. b ≡ has_no_terms (comparisons.terms_between p.now q.now)) }
 {

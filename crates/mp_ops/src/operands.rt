@@ -93,6 +93,30 @@ impl<'a> Store<'a> {
         }
     }
 
+    /// The form of a number, and a known number, in units of 2^-16.
+    pub(crate) fn form_and_number(
+        &self,
+        op: &[u8],
+        left: &Value,
+        right: &Value,
+    ) -> Result<(Form, i32), Fault>
+        requires left { IsIn left.now self.now }
+        requires right { IsIn right.now self.now }
+        ensures exact { Gives result self.now
+            (operands.both operands.form operands.number op.now left.now right.now self.now) }
+        ensures within { IfOk result (λ both. reach_of_form both.0 ≤ length self.now.unknowns) }
+    {
+        match (self.settled(left), self.settled(right)) {
+            (Value::Numeric(left), Value::Numeric(right)) => {
+                let p = self.up_to_date(left)?;
+                let q = self.up_to_date(right)?;
+                let number = self.known(op, &q)?;
+                Ok((p, number))
+            }
+            _ => Err(Fault::wrong_type(self.alloc, op)),
+        }
+    }
+
     /// A number without unknowns, in units of 2^-16: `NotKnown`.
     pub fn known(&self, op: &[u8], form: &Form) -> Result<i32, Fault>
         ensures { Gives result self.now (operands.known op.now form.now self.now) }
