@@ -135,9 +135,17 @@ const BINARY: [(&str, &str); 7] = [
     ),
 ];
 
-const COMPARISONS: [&str; 6] = ["<", "<=", ">", ">=", "=", "<>"];
+/// A comparison, and what it gives where the left operand is the smaller one, the same, the greater one.
+const COMPARISONS: [(&str, &str, &str, &str); 6] = [
+    ("<", "true", "false", "false"),
+    ("<=", "true", "true", "false"),
+    (">", "false", "false", "true"),
+    (">=", "false", "true", "true"),
+    ("=", "false", "true", "false"),
+    ("<>", "true", "false", "true"),
+];
 
-/// How the left operand lies to the right one, likewise: a comparison is true where its sign has this one in it.
+/// How the left operand lies to the right one, where that is known; else W or K. In rows, as above.
 const ORDERS: &str = "= K K < W W W W W
     K = > K W W W W W
     K < = K W W W W W
@@ -544,24 +552,20 @@ fn each_two_operands_have_their_result(rt: HostRuntime) -> Result<(), Fail> {
     Ok(())
 }
 
-/// What a comparison gives where the left operand lies so to the right one.
-fn compared(operator: &str, order: &'static str) -> &'static str {
-    match order {
-        "W" | "K" => order,
-        sign if operator.contains(sign) => "true",
-        _ => "false",
-    }
-}
-
 #[test]
 fn each_two_operands_are_compared(rt: HostRuntime) -> Result<(), Fail> {
     let alloc = rt.alloc();
-    for operator in COMPARISONS {
+    for (operator, smaller, same, greater) in COMPARISONS {
         let mut orders = ORDERS.split_whitespace();
         for left in OPERANDS {
             for right in OPERANDS {
+                let result = match orders.next().unwrap_or("none") {
+                    "<" => smaller,
+                    "=" => same,
+                    ">" => greater,
+                    refused => refused,
+                };
                 let phrase = format!(in alloc; "{left} {operator} {right}")?;
-                let result = compared(operator, orders.next().unwrap_or("none"));
                 expect_shown(&rt, alloc, phrase.as_str(), operator, result)?;
             }
         }
