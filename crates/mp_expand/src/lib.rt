@@ -12,6 +12,7 @@
 mod advance;
 mod answers;
 mod calls;
+mod conditions;
 mod expander;
 mod front;
 mod laws;
@@ -23,8 +24,8 @@ mod step;
 mod texts;
 
 pub use expander::Expander;
-pub use front::Front;
+pub use front::{Equals, Front};
 pub use laws::{expansion_invents_nothing, steps_are_counted};
 pub use limits::NESTING_LIMIT;
-pub use request::{Behind, Call, Delimited, Need, Request, Until};
+pub use request::{Behind, Branch, Call, Delimited, Need, Request, Skip, Until};
 pub use step::{Answer, Operand, Step, Want};
