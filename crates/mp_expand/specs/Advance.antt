@@ -48,7 +48,7 @@ abbrev pub opened : Call → Delimited → Step → Rule Step
 opened c k (step.Front (front.Left symbol pair)) = argument c pair k
 opened c k x = halt (Refused error.BadArguments)
 
--- the front that was reached
+-- the front that was reached, which is one of these
 abbrev pub front_of : Step → Front
 front_of (step.Front x) = x
 front_of (step.Text bytes) = front.Text

@@ -1,6 +1,6 @@
 -- Conditions: what comes of `if`, `elseif`, `else` and `fi`, and what is passed over.
 -- After Hobby, A User's Manual for MetaPost, section 10; the refusals are this project's own.
-use Rattle.std.specs.Prelude.{ℕ, zero, suc, Bool, true, false, List, [], ◌∷◌, Option, Some, None, codes}
+use Rattle.std.specs.Prelude.{ℕ, zero, suc, Bool, true, false, List, ◌∷◌, Option, Some, None, codes}
 use Rattle.mp_report.specs.declared.error.SourceError.TheVariants as error
 use Rattle.mp_values.specs.Outcome.{◌>>=◌, give, halt, change, Refused}
 use Rattle.mp_values.specs.Refusals.{bad_token, unexpected}

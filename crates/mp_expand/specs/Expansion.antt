@@ -1,5 +1,5 @@
 -- What an expander holds: the text that is left, what waits for more of it, and the conditions that are open.
-use Rattle.std.specs.Prelude.{◌≡◌, ℕ, List, [], ◌∷◌, Option, Some, None, Result, Err, ◌⊎◌, drop}
+use Rattle.std.specs.Prelude.{◌≡◌, ℕ, List, ◌∷◌, Option, Some, None, Result, Err, ◌⊎◌, drop}
 use Rattle.mp_report.specs.declared.place.Place.{Place}
 use Rattle.mp_values.specs.Outcome.{RuleBy, Cause}
 use Rattle.mp_values.specs.declared.stop.Stop.{Stop}

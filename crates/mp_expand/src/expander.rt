@@ -24,9 +24,8 @@ pub struct Expander {
     steps: u64,
     budget: u64,
     nesting: u32,
-    // the last one is the newest
+    // the last one is the newest, here and of the conditions
     pub(crate) requests: Vec<Request>,
-    // the last one is the newest
     pub(crate) conditions: Vec<Branch>,
 }
 

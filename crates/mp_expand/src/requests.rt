@@ -3,7 +3,7 @@
 ghost use Rattle.std.specs.Prelude.{◌≡◌, OnOk, OnErr};
 ghost use Rattle.mp_expand.specs.Calls as calls;
 ghost use Rattle.mp_expand.specs.Expansion as expansion;
-ghost use Rattle.mp_expand.specs.Expansion.{TakesOff};
+ghost use Rattle.mp_expand.specs.Expansion.{IsRest, TakesOff};
 
 use crate::expander::Expander;
 use crate::request::{Asker, Need, Opener, Reader, Request};
@@ -19,7 +19,10 @@ impl Expander {
             return None;
         };
         match self.requests.pop()? {
-            Request::Call(call, Need::Text(until, depth)) => Some(Reader::Text(call, until, depth)),
+            Request::Call(call, need) => match need {
+                Need::Text(until, depth) => Some(Reader::Text(call, until, depth)),
+                _ => None,
+            },
             Request::Skip(skip, depth) => Some(Reader::Skip(skip, depth)),
             _ => None,
         }
@@ -33,7 +36,10 @@ impl Expander {
             return None;
         };
         match self.requests.pop()? {
-            Request::Call(call, Need::Opening(kind)) => Some(Opener::Argument(call, kind)),
+            Request::Call(call, need) => match need {
+                Need::Opening(kind) => Some(Opener::Argument(call, kind)),
+                _ => None,
+            },
             Request::Colon => Some(Opener::Branch),
             _ => None,
         }
@@ -41,13 +47,17 @@ impl Expander {
 
     /// The newest request is taken off where it waits for an answer.
     pub(crate) fn asking(&mut self) -> Option<Asker>
-        ensures { TakesOff (expansion.asking self.old.requests) result self.old self.new }
+        ensures taken { TakesOff (expansion.asking self.old.requests) result self.old self.new }
+        ensures rest { IsRest self.old.requests self.new.requests }
     {
         let (Request::Call(_, Need::Answer(_)) | Request::Truth(_)) = self.requests.last()? else {
             return None;
         };
         match self.requests.pop()? {
-            Request::Call(call, Need::Answer(behind)) => Some(Asker::Argument(call, behind)),
+            Request::Call(call, need) => match need {
+                Need::Answer(behind) => Some(Asker::Argument(call, behind)),
+                _ => None,
+            },
             Request::Truth(_) => Some(Asker::Branch),
             _ => None,
         }
