@@ -490,8 +490,8 @@ const SIDES: [(&str, &str, u8); 27] = [
 ];
 
 /// What is written for a result of the tables above.
-fn written(alloc: Global, operator: &str, result: &str) -> Result<String, AllocError> {
-    match result {
+fn written(alloc: Global, operator: &str, given: &str) -> Result<String, AllocError> {
+    match given {
         "W" => format!(in alloc; "a.mp:1: error 8 WrongType {operator}\n"),
         "K" => format!(in alloc; "a.mp:1: error 9 NotKnown {operator}\n"),
         shown => format!(in alloc; ">> {shown}\n"),
@@ -503,10 +503,10 @@ fn expect_shown(
     alloc: Global,
     phrase: &str,
     operator: &str,
-    result: &str,
+    given: &str,
 ) -> Result<(), Fail> {
     let text = format!(in alloc; "{BEFORE}{phrase};")?;
-    let wanted = written(alloc, operator, result)?;
+    let wanted = written(alloc, operator, given)?;
     let left = run_text(alloc, text.as_str())?;
     assert_eq!(rt; left.written.as_slice(), wanted.as_bytes(), "{phrase}");
     Ok(())
@@ -523,8 +523,8 @@ fn expect_between(
     for left in OPERANDS {
         for right in OPERANDS {
             let phrase = format!(in alloc; "{left} {operator} {right}")?;
-            let result = results.next().unwrap_or("none");
-            expect_shown(rt, alloc, phrase.as_str(), operator, result)?;
+            let given = results.next().unwrap_or("none");
+            expect_shown(rt, alloc, phrase.as_str(), operator, given)?;
         }
     }
     Ok(())
@@ -537,8 +537,8 @@ fn each_operand_has_its_result(rt: HostRuntime) -> Result<(), Fail> {
         let mut results = results.split_whitespace();
         for operand in OPERANDS {
             let phrase = format!(in alloc; "{operator} {operand}")?;
-            let result = results.next().unwrap_or("none");
-            expect_shown(&rt, alloc, phrase.as_str(), operator, result)?;
+            let given = results.next().unwrap_or("none");
+            expect_shown(&rt, alloc, phrase.as_str(), operator, given)?;
         }
     }
     Ok(())
@@ -559,14 +559,14 @@ fn each_two_operands_are_compared(rt: HostRuntime) -> Result<(), Fail> {
         let mut orders = ORDERS.split_whitespace();
         for left in OPERANDS {
             for right in OPERANDS {
-                let result = match orders.next().unwrap_or("none") {
+                let given = match orders.next().unwrap_or("none") {
                     "<" => smaller,
                     "=" => same,
                     ">" => greater,
                     refused => refused,
                 };
                 let phrase = format!(in alloc; "{left} {operator} {right}")?;
-                expect_shown(&rt, alloc, phrase.as_str(), operator, result)?;
+                expect_shown(&rt, alloc, phrase.as_str(), operator, given)?;
             }
         }
     }
