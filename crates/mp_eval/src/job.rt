@@ -9,7 +9,6 @@ const SLASH: u8 = b'/';
 const POINT: u8 = b'.';
 
 /// What stands before and behind the last byte of that code, if there is one.
-#[tactic(auto, unfolding(Rattle::std::specs::Path::rsplit_once))]
 fn split_at_last(name: &[u8], code: u8) -> Option<(&[u8], &[u8])>
     ensures { option_map (λ halves. (halves.0.now, halves.1.now)) result ≡ rsplit_once code name.now }
 {

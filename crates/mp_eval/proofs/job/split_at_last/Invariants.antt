@@ -5,8 +5,8 @@ use Rattle.mp_eval.proofs.job.split_at_last.Given as goal
 -- where the byte stands last is as it is among those that are left
 abbrev pub invariant-bytes : goal.invariant-bytes
 invariant-bytes l = record {
-  within : l.end ≤ length l.name.now;
-  found : rfind_below l.code l.name.now (length l.name.now) ≡ rfind_below l.code l.name.now l.end;
+  within : l.end ≤ length l.name;
+  found : rfind_below l.code l.name (length l.name) ≡ rfind_below l.code l.name l.end;
 }
 
 abbrev pub decreases-bytes : goal.decreases-bytes
