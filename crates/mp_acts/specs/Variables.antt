@@ -31,7 +31,7 @@ use Rattle.mp_vartree.specs.declared.entry.Variable.{Variable}
 use Rattle.mp_vartree.specs.declared.names.Part.{Part}
 use Rattle.mp_vartree.specs.declared.names.Shape.{Shape}
 use Rattle.mp_acts.specs.State.{State, symbol_meaning}
-use Rattle.mp_acts.specs.Operands.{up_to_date, operand, known}
+use Rattle.mp_acts.specs.Operators.{up_to_date, operand, known}
 use Rattle.mp_acts.specs.Suffixes.{variable_name}
 use Rattle.mp_acts.specs.declared.target.Target.{Target}
 use Rattle.mp_acts.specs.declared.target.Target.TheVariants as target

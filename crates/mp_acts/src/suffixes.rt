@@ -9,8 +9,8 @@ ghost use Rattle.mp_acts.specs.Reach.{reach, reach_of_part};
 ghost use Rattle.mp_acts.specs.Suffixes as suffixes;
 
 use crate::State;
-use crate::limits::TEXT_LIMIT;
 use crate::texts::push_scaled;
+use mp_ops::TEXT_LIMIT;
 use mp_report::{Cap, SourceError};
 use mp_scaled::{Bytes, NoMemory, SharedSlice};
 use mp_values::{Fault, Value};
@@ -103,7 +103,7 @@ impl State {
     {
         match value {
             Value::Numeric(form) => {
-                let form = self.up_to_date(form)?;
+                let form = self.store().up_to_date(form)?;
                 if form.terms().is_empty() {
                     Ok(form.constant())
                 } else {
