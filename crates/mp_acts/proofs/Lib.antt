@@ -1,5 +1,4 @@
 pub mod StoreLemmas
-pub mod ReachLemmas
 pub mod EquationLemmas
 pub mod EventLemmas
 mod Examples

@@ -20,7 +20,6 @@ use mp_report::{Cap, SourceError};
 use mp_scaled::Bytes;
 use mp_solver::{Equated, TERM_LIMIT};
 use mp_values::{Fault, Value, have_one_kind};
-
 use std::snapshot::Snapshot;
 
 impl State {

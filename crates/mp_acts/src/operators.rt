@@ -1,15 +1,17 @@
 //! The operators and the words that are primaries by themselves. What an operator makes of its operands, and in which
 //! order it refuses them, is said by mp_ops, to which the store of the state is lent.
 
-ghost use Rattle.std.specs.Prelude.{◌≡◌, IfOk};
+ghost use Rattle.std.specs.Prelude.{◌≡◌, ◌≤◌, IfOk};
 ghost use Rattle.mp_values.specs.Outcome.{Gives};
 ghost use Rattle.mp_acts.specs.Counts.{IsWithin};
 ghost use Rattle.mp_acts.specs.Operators as operators;
 ghost use Rattle.mp_acts.specs.Operators.{store_of};
 ghost use Rattle.mp_acts.specs.Reach.{reach};
-ghost use Rattle.mp_acts.specs.State.{counts};
+ghost use Rattle.mp_acts.specs.State.{counts, unknown_count};
+ghost use Rattle.mp_ops.specs.Store.{reach_of_form};
 
 use crate::State;
+use mp_forms::Form;
 use mp_ops::Store;
 use mp_values::{Expression, Fault, Nullary, Secondary, Tertiary, Unary, Value};
 
@@ -68,6 +70,16 @@ impl State {
         ensures within { IfOk result (λ v. IsWithin (reach v) (counts self.now)) }
     {
         self.store().expression(op, left, right)
+    }
+
+    /// A form in which each unknown that equations have solved for is replaced by what it equals.
+    #[tactic(auto, using(crate::proofs::StoreLemmas::given))]
+    pub(crate) fn up_to_date(&self, form: &Form) -> Result<Form, Fault>
+        requires { reach_of_form form.now ≤ unknown_count self.now }
+        ensures exact { Gives result self.now (operators.up_to_date form.now self.now) }
+        ensures within { IfOk result (λ p. reach_of_form p ≤ unknown_count self.now) }
+    {
+        self.store().up_to_date(form)
     }
 
     /// The truth that a value is, for that word: `WrongType`, `NotKnown`.

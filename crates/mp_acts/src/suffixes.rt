@@ -103,7 +103,7 @@ impl State {
     {
         match value {
             Value::Numeric(form) => {
-                let form = self.store().up_to_date(form)?;
+                let form = self.up_to_date(form)?;
                 if form.terms().is_empty() {
                     Ok(form.constant())
                 } else {

@@ -38,7 +38,7 @@ impl State {
     {
         match value {
             Value::Numeric(form) => {
-                let form = self.store().up_to_date(form)?;
+                let form = self.up_to_date(form)?;
                 Ok(self.form_text(&form)?)
             }
             Value::Text(bytes) => Ok(self.quoted(bytes.as_slice())?),

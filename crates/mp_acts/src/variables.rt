@@ -471,7 +471,7 @@ impl State {
         ensures kind { IfOk result (λ v. kind_of v ≡ kind_of value.now) }
     {
         match value {
-            Value::Numeric(form) => Ok(Value::Numeric(self.store().up_to_date(form)?)),
+            Value::Numeric(form) => Ok(Value::Numeric(self.up_to_date(form)?)),
             Value::Boolean(_) | Value::Text(_) | Value::Unset(..) | Value::Vacuous => {
                 Ok(value.copy(self.alloc)?)
             }

@@ -6,6 +6,7 @@ ghost use Rattle.std.specs.Path.{rsplit_once};
 ghost use Rattle.mp_eval.specs.Job as job;
 
 const SLASH: u8 = b'/';
+
 const POINT: u8 = b'.';
 
 /// What stands before and behind the last byte of that code, if there is one.

@@ -22,7 +22,8 @@ use crate::evaluator::Evaluator;
 use mp_macro::Defined;
 use mp_scaled::{Shared, SharedSlice};
 use mp_values::{
-    Expression, Kind, Macro, Nullary, Scaled, Secondary, Speech, Stop, SymbolCommand, Tertiary, Unary, Value,
+    Expression, Kind, Macro, Nullary, Scaled, Secondary, Speech, Stop, SymbolCommand, Tertiary,
+    Unary, Value,
 };
 use mp_vartree::{Pattern, Suffix};
 

@@ -10,8 +10,8 @@ ghost use Rattle.mp_rules.specs.Promises.{Means, Acts, UsesValue};
 ghost use Rattle.mp_rules.specs.Meaning.{the};
 
 use crate::evaluator::Evaluator;
-use mp_scaled::Shared;
 use mp_expand::Equals;
+use mp_scaled::Shared;
 use mp_values::{Level, Macro, Stop, Value};
 
 impl Evaluator {
