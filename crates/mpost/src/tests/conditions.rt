@@ -76,7 +76,11 @@ const BRANCHES: [(&str, &str, u8); 30] = [
         0,
     ),
     ("if true: save fi; show fi;", ">> fi\n", 0),
-    ("if false: save fi; fi show 1;", ">> 1\n", 0),
+    (
+        "if false: save fi; fi show 1;",
+        "a.mp:1: error 16 LoneConditionWord\n",
+        1,
+    ),
     ("show 1; if true: show 2; end", ">> 1\n>> 2\n", 0),
     ("if true: end fi show 1;", "", 0),
     ("boolean b, c; c:=b; b=true; if c: show 1; fi", ">> 1\n", 0),
