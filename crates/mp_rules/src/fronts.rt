@@ -112,7 +112,6 @@ impl Evaluator {
     }
 
     /// The operand of a condition is a truth.
-    #[tactic(auto, using(crate::proofs::NameLemmas::truth_within))]
     fn truth_answer(&self, word: Condition, value: Value) -> Result<Answer, Stop>
         requires { IsWithin (reach value) (things self.now) }
         ensures { ActsAnswer (rules.truth_of word value) result self.now self.now }

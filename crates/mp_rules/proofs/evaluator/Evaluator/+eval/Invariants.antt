@@ -146,6 +146,9 @@ decreases-string_primary l = 2 * (64 * coming l.self.now) + 1
 abbrev pub decreases-value_primary : goal.decreases-value_primary
 decreases-value_primary l = 2 * (64 * coming l.self.now) + 1
 
+abbrev pub decreases-constant : goal.decreases-constant
+decreases-constant l = 2 * (64 * coming l.self.now) + 1
+
 abbrev pub decreases-internal : goal.decreases-internal
 decreases-internal l = 2 * (64 * coming l.self.now) + 1
 
