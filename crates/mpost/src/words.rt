@@ -12,31 +12,35 @@ ghost use Rattle.mpost.specs.ReadWords.{ReadAs};
 use mp_scaled::{Bytes, NoMemory};
 use std::alloc::Global;
 
-/// The steps that a run may take: where the words do not say it, and the least and the most that they may say.
+/// The steps that a run may take where the words do not say it.
 pub const DEFAULT_STEPS: u32 = 10_000_000;
 
+/// The fewest steps that the words may ask for.
 pub const LEAST_STEPS: u32 = 1;
 
+/// The most steps that they may ask for.
 pub const GREATEST_STEPS: u32 = 1_000_000_000;
 
-/// The seed of the random words, likewise.
+/// The seed of the random words where the command line does not say it.
 pub const DEFAULT_SEED: u32 = 0;
 
+/// The least seed that it may say.
 pub const LEAST_SEED: u32 = 0;
 
+/// The greatest one: seeds are below 2^28.
 pub const GREATEST_SEED: u32 = 268_435_455;
 
 /// A number on the command line has at most this many digits.
 pub const LONGEST_NUMBER: usize = 10;
 
-/// An option that has a number.
+/// An option that has a number: the steps that a run may take, or the seed of its random words.
 #[derive(Clone, Copy)]
 pub enum Numbered {
     Steps,
     Seed,
 }
 
-/// An option, by its word.
+/// An option, as its word names it.
 #[derive(Clone, Copy)]
 pub enum OptionWord {
     Bare,
@@ -161,6 +165,7 @@ fn file_behind<'a>(said: Options, file: &'a [u8], more: &[String]) -> Command<'a
     }
 }
 
+// The number of an option, where the word is one that it may have.
 fn number_of(option: Numbered, word: &str) -> Option<u32>
     ensures { result ≡ words.number_of option word.now }
 {
