@@ -23,14 +23,16 @@ use Rattle.mp_vartree.specs.Laws.{held}
 use Rattle.mp_symbols.specs.Tables.{Table}
 use Rattle.mp_acts.specs.Counts.{IsWithin}
 use Rattle.mp_acts.specs.State.{State, counts_of}
-use Rattle.mp_acts.specs.Reach.{reach_of_form, reach_of_known, reach_of_variable, reach_of_declared, reach_of_slot, AreWithin}
+use Rattle.mp_acts.specs.Reach.{reach_of_variable, reach_of_declared, reach_of_slot, AreWithin}
+use Rattle.mp_ops.specs.Store.{reach_of_form, reach_of_known}
 use Rattle.mp_acts.specs.Kept.{IsKept}
-use Rattle.mp_acts.specs.Operands.{or_refused}
+use Rattle.mp_ops.specs.Operands.{or_refused}
+use Rattle.mp_acts.specs.Operators.{from_store, store_of}
 use Rattle.mp_acts.specs.Equations.{IsAnswer}
 use Rattle.mp_values.specs.Outcome.{in_state}
 use Rattle.mp_acts.proofs.EventLemmas.{events_equation}
 use Rattle.mp_acts.proofs.WithinLemmas.{within_more, all_more, meanings_more, saved_more}
-use Rattle.mp_acts.proofs.ReachLemmas.{is_over, ok_within, reduce_within, reach-filter, reach-changed, reach-sum}
+use Rattle.mp_ops.proofs.ReachLemmas.{is_over, ok_within, reduce_within, reach-filter, reach-changed, reach-sum}
 
 module _ (n : ℕ) where
   solved_within : (pivot : Term) (p : LinearForm) → reach_of_form p ≤ n → reach_of_form (solved_for pivot p) ≤ n
@@ -176,6 +178,6 @@ module _ (before still now : Unknowns) (difference : LinearForm) (ready : Prepar
   answer_is s is = record {
     residual = ready.residual;
     is_up_to_date =
-        ap (λ r. in_state (or_refused r) s) (ap (λ (unknowns : Unknowns). reduce_of unknowns.states difference) is ∙ residual_is);
+        ap (λ r. from_store (in_state (or_refused r) (store_of s)) s) (ap (λ (unknowns : Unknowns). reduce_of unknowns.states difference) is ∙ residual_is);
     outcome = outcome_is ∙ ap (λ (unknowns : Unknowns). eliminate unknowns.states ready.residual) (sym is);
   }

@@ -18,6 +18,7 @@ use Rattle.mp_values.specs.declared.word.Secondary.TheVariants as factor
 use Rattle.mp_values.specs.declared.word.Speech.TheVariants as speech
 use Rattle.mp_values.specs.declared.word.SymbolCommand.TheVariants as word
 use Rattle.mp_values.specs.declared.word.Tertiary.TheVariants as summand
+use Rattle.mp_values.specs.declared.word.Nullary.TheVariants as nullary_word
 use Rattle.mp_values.specs.declared.value.Kind.TheVariants as kind
 use Rattle.mp_values.specs.declared.value.Value.TheVariants.{Numeric, Text, Unset}
 use Rattle.mp_vartree.specs.Variables.{Variables}
@@ -27,8 +28,11 @@ use Rattle.mp_vartree.specs.declared.names.Part.{Part}
 use Rattle.mp_vartree.specs.declared.names.Part.TheVariants as part
 use Rattle.mp_vartree.specs.declared.names.Shape.TheVariants as shape
 use Rattle.mp_acts.specs.State.{State, made_unknowns, accepted_equations}
-use Rattle.mp_acts.specs.Operands.{operand}
-use Rattle.mp_acts.specs.Arithmetic.{known_number, difference, combined, product, secondary, tertiary}
+use Rattle.mp_ops.specs.Arithmetic.{difference_by}
+use Rattle.mp_ops.specs.Operands.{operand as number_operand, text as text_operand}
+use Rattle.mp_ops.specs.Operators.{secondary as secondary_of, tertiary as tertiary_of}
+use Rattle.mp_acts.specs.Numbers.{known_number}
+use Rattle.mp_acts.specs.Operators.{secondary, tertiary, nullary}
 use Rattle.mp_acts.specs.Texts.{form_text, more_terms, value_text}
 use Rattle.mp_acts.specs.Lines.{line, show, errmessage, speak}
 use Rattle.mp_acts.specs.Suffixes.{parts_text, suffix_text, variable_name, subscript}
@@ -75,6 +79,7 @@ state variables unknowns = record {
   unknowns = unknowns;
   events = Fresh (codes "x") ∷ Fresh (codes "y") ∷ [];
   lines = [];
+  job = codes "a";
 }
 
 abbrev start : State
@@ -101,18 +106,22 @@ no_name : form_text (record { states = None ∷ []; names = None ∷ [] }) (form
 unfolding form_text more_terms digits_within digits
 no_name = refl
 
--- the left operand is refused before the right one
-left_first : product (Text []) (Numeric (form (pos 0) [])) start ≡ Err (wrong_type (codes "*"), start)
-unfolding product
-left_first = refl
+-- the types of operands are tested first
+types_first : secondary factor.Times (Text []) X start ≡ Err (wrong_type (codes "*"), start)
+unfolding secondary secondary_of
+types_first = refl
 
 unknown_factors : secondary factor.Times X Y start ≡ Err (not_known (codes "*"), start)
-unfolding secondary product
+unfolding secondary secondary_of
 unknown_factors = refl
 
 difference_of_unknowns : tertiary summand.Minus Y X start ≡ Ok (Numeric (form (pos 0) (term 2 one ∷ term 1 (neg_ℤ one) ∷ [])), start)
-unfolding tertiary difference combined sum_terms with_term
+unfolding tertiary tertiary_of sum_terms with_term
 difference_of_unknowns = refl
+
+named_job : nullary nullary_word.Jobname start ≡ Ok (Text (codes "a"), start)
+unfolding nullary
+named_job = refl
 
 -- the right side is what is taken away from the left one
 abbrev x_minus_y : LinearForm
@@ -126,7 +135,7 @@ equal = record start {
 }
 
 equated : equation X Y start ≡ Ok (tt, equal)
-unfolding equation equate_numbers combined vanish sum_terms with_term
+unfolding equation equate_numbers difference_by vanish sum_terms with_term
 equated = refl
 
 shown_up_to_date : show Y equal ≡ Ok (tt, record equal { lines = codes ">> x\n" })
@@ -143,11 +152,11 @@ counted = refl
 
 -- an equation that holds already is no event
 redundant : equation Y X equal ≡ Ok (tt, record equal { lines = codes "## redundant 0\n" })
-unfolding equation equate_numbers combined vanish line sum_terms with_term digits_within digits
+unfolding equation equate_numbers difference_by vanish line sum_terms with_term digits_within digits
 redundant = refl
 
 inconsistent : equation (known_number (pos 65536)) (known_number (pos 65601)) start ≡ Err (error.Inconsistent (neg_ℤ (pos 65)), start)
-unfolding equation equate_numbers combined vanish sum_terms
+unfolding equation equate_numbers difference_by vanish sum_terms
 inconsistent = refl
 
 -- an unknown that is assigned a number has no name any more
@@ -251,11 +260,11 @@ copied_tag = refl
 
 -- an internal has its old value again
 interim_undone : ◌≡◌ {A = Outcome State (Unit {0})} (then (interim 0 (known_number (pos 0)) (begin_group start)) (λ _. change end_group)) (Ok (tt, start))
-unfolding interim operand end_group undo_group
+unfolding interim number_operand end_group undo_group
 interim_undone = refl
 
 user_error : speak speech.Errmessage (Text (codes "no")) start ≡ Err (error.UserError (codes "no"), start)
-unfolding speak errmessage
+unfolding speak errmessage text_operand
 user_error = refl
 
 -- the words of groups are the symbols behind the parentheses

@@ -25,5 +25,6 @@ undone_more old now next is closed forgets = record {
         unknowns = record s.unknowns { names = next.unknowns.names };
         events = s.events;
         lines = s.lines;
+        job = s.job;
       }) is.rest;
 }

@@ -1,4 +1,4 @@
-pub mod ReachLemmas
+pub mod StoreLemmas
 pub mod EquationLemmas
 pub mod EventLemmas
 mod Examples

@@ -16,7 +16,7 @@ use Rattle.mp_solver.specs.declared.fresh.Fresh.{Fresh}
 use Rattle.mp_solver.specs.declared.fresh.Fresh.TheVariants.{Made, Limit}
 use Rattle.mp_values.specs.declared.macros.Macro.{Macro}
 use Rattle.mp_values.specs.declared.value.Value.{Value}
-use Rattle.mp_vartree.specs.Kinds.{kind_of, is_kind}
+use Rattle.mp_values.specs.Kinds.{kind_of, is_kind}
 use Rattle.mp_vartree.specs.Names.{name_cmp, pattern_cmp, pattern_of, full_name, full_pattern, begins, is_meant, is_of_root}
 use Rattle.mp_vartree.specs.Declarations.{macro_in, or_else, first_macro, is_below_macro}
 use Rattle.mp_vartree.specs.Laws.{held, PutsOne, TakesThose}
@@ -33,7 +33,8 @@ use Rattle.mp_solver.specs.Replay as event
 use Rattle.mp_solver.specs.Replay.{Event}
 use Rattle.mp_values.specs.declared.meaning.Meaning.{Meaning}
 use Rattle.mp_acts.specs.Counts.{Counts, nothing, greatest, IsWithin}
-use Rattle.mp_acts.specs.Reach.{reach, reach_of_form, reach_of_known, reach_of_fresh, reach_of_variable, reach_of_macro, reach_of_declared, reach_of_slot, reach_of_meaning, reach_of_saved, AreWithin}
+use Rattle.mp_acts.specs.Reach.{reach, reach_of_fresh, reach_of_variable, reach_of_macro, reach_of_declared, reach_of_slot, reach_of_meaning, reach_of_saved, AreWithin}
+use Rattle.mp_ops.specs.Store.{reach_of_form, reach_of_known}
 use Rattle.std.proofs.lemmas.List.{length-set}
 use Rattle.mp_symbols.specs.Names.{Names}
 use Rattle.mp_symbols.specs.Tables.{Table}
@@ -45,7 +46,7 @@ use Rattle.mp_acts.specs.Variables.{without_names}
 use Rattle.mp_acts.specs.declared.event.Event.{Event as Kept}
 use Rattle.mp_solver.specs.declared.limits.TheConstants.{UNKNOWN_LIMIT}
 use Rattle.mp_acts.proofs.EventLemmas.{map_push, events_fresh, states_without_names, events_without_names}
-use Rattle.mp_acts.proofs.ReachLemmas.{reach_of_counted}
+use Rattle.mp_ops.proofs.ReachLemmas.{reach_of_counted}
 
 pub nothing_within : (n : Counts) → IsWithin nothing n
 nothing_within n = record { unknowns = omega arith; slots = omega arith; symbols = omega arith; internals = omega arith }
@@ -243,11 +244,11 @@ with_fewer_names {count = count} {variables = variables} {slots = slots} {symbol
     })
 
 -- unknowns with the same states differ by their names
-pub with_states : (symbols : Table Meaning) (variables : Variables) (slots : List (Option Value)) (events : List Event) (lines : List ℕ) (now before : Unknowns) → now.states ≡ before.states
-    → ◌≡◌ {A = State} (record { symbols = symbols; variables = variables; slots = slots; unknowns = now; events = events; lines = lines })
-    (record { symbols = symbols; variables = variables; slots = slots; unknowns = record before { names = now.names }; events = events; lines = lines })
-with_states symbols variables slots events lines now before same =
-    ap (λ (states : States). record { symbols = symbols; variables = variables; slots = slots; unknowns = record now { states = states }; events = events; lines = lines }) same
+pub with_states : (symbols : Table Meaning) (variables : Variables) (slots : List (Option Value)) (events : List Event) (lines job : List ℕ) (now before : Unknowns) → now.states ≡ before.states
+    → ◌≡◌ {A = State} (record { symbols = symbols; variables = variables; slots = slots; unknowns = now; events = events; lines = lines; job = job })
+    (record { symbols = symbols; variables = variables; slots = slots; unknowns = record before { names = now.names }; events = events; lines = lines; job = job })
+with_states symbols variables slots events lines job now before same =
+    ap (λ (states : States). record { symbols = symbols; variables = variables; slots = slots; unknowns = record now { states = states }; events = events; lines = lines; job = job }) same
 
 -- an unknown that was made: the unknowns before and after it
 module _ (before : Unknowns) (name : List ℕ) (serial : ℕ) (after : Unknowns) (exact : (Made serial, after) ≡ fresh_of before name) where

@@ -16,10 +16,10 @@ use Rattle.mp_values.specs.Outcome.{Rule, ◌>>=◌, halt, change}
 use Rattle.mp_values.specs.Refusals.{wrong_type, not_known}
 use Rattle.mp_values.specs.declared.value.Value.{Value}
 use Rattle.mp_values.specs.declared.value.Value.TheVariants.{Boolean, Numeric, Text, Unset, Vacuous}
-use Rattle.mp_vartree.specs.Kinds.{are_of_one_kind}
+use Rattle.mp_values.specs.Kinds.{are_of_one_kind}
+use Rattle.mp_ops.specs.Store.{settled}
 use Rattle.mp_acts.specs.State.{State}
-use Rattle.mp_acts.specs.Operands.{up_to_date, settled}
-use Rattle.mp_acts.specs.Arithmetic.{difference_by}
+use Rattle.mp_acts.specs.Operators.{up_to_date, difference_by}
 use Rattle.mp_acts.specs.Lines.{line}
 use Rattle.mp_solver.specs.declared.limits.TheConstants.{TERM_LIMIT}
 

@@ -14,7 +14,7 @@ use Rattle.mp_values.specs.declared.value.Value.{Value}
 use Rattle.mp_values.specs.declared.word.SymbolCommand.{SymbolCommand}
 use Rattle.mp_values.specs.declared.word.SymbolCommand.TheVariants as word
 use Rattle.mp_acts.specs.State.{State, symbol_meaning}
-use Rattle.mp_acts.specs.Operands.{operand, known}
+use Rattle.mp_acts.specs.Operators.{operand, known}
 use Rattle.mp_acts.specs.Variables.{without_root, IsForgetting}
 
 abbrev pub with_symbols : State → Table Meaning → State

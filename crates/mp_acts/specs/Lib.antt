@@ -1,9 +1,9 @@
 pub mod Counts
 pub mod State
 pub mod Reach
-pub mod Operands
+pub mod Operators
 pub mod Suffixes
-pub mod Arithmetic
+pub mod Numbers
 pub mod Texts
 pub mod Lines
 pub mod Variables

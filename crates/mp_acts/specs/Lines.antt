@@ -7,7 +7,7 @@ use Rattle.mp_values.specs.declared.value.Value.{Value}
 use Rattle.mp_values.specs.declared.word.Speech.{Speech}
 use Rattle.mp_values.specs.declared.word.Speech.TheVariants as speech
 use Rattle.mp_acts.specs.State.{State}
-use Rattle.mp_acts.specs.Operands.{text}
+use Rattle.mp_acts.specs.Operators.{text}
 use Rattle.mp_acts.specs.Texts.{value_text}
 use Rattle.mp_acts.specs.declared.limits.TheConstants.{LINES_LIMIT}
 

@@ -1,7 +1,5 @@
 -- How many things there must be so that a value, an item or a meaning speaks of none but them.
-use Rattle.std.specs.Prelude.{ℕ, zero, suc, max, List, [], ◌∷◌, ◌≤◌, All, Option, Some, None, length}
-use Rattle.mp_pool.specs.declared.Term.{Term}
-use Rattle.mp_forms.specs.Forms.{LinearForm}
+use Rattle.std.specs.Prelude.{ℕ, suc, List, ◌≤◌, All, Option, Some, None, length}
 use Rattle.mp_symbols.specs.Tables.{Table}
 use Rattle.mp_symbols.specs.declared.saved.Saved.{Saved}
 use Rattle.mp_symbols.specs.declared.saved.Saved.TheVariants as saved
@@ -15,7 +13,7 @@ use Rattle.mp_values.specs.declared.meaning.Meaning.{Meaning}
 use Rattle.mp_values.specs.declared.meaning.Meaning.TheVariants as meaning
 use Rattle.mp_values.specs.declared.meaning.Delimiters.{Delimiters}
 use Rattle.mp_values.specs.declared.value.Value.{Value}
-use Rattle.mp_values.specs.declared.value.Value.TheVariants.{Boolean, Numeric, Text, Unset, Vacuous}
+use Rattle.mp_ops.specs.Store.{reach_of_serial, reach_of_known, unknowns_reached, slots_reached}
 use Rattle.mp_vartree.specs.Variables.{Variables}
 use Rattle.mp_vartree.specs.Laws.{held}
 use Rattle.mp_vartree.specs.declared.entry.Declared.{Declared}
@@ -29,31 +27,12 @@ use Rattle.mp_acts.specs.declared.target.Target.{Target}
 use Rattle.mp_acts.specs.declared.target.Target.TheVariants as target
 use Rattle.mp_solver.specs.declared.limits.TheConstants.{UNKNOWN_LIMIT}
 
--- FORMS
-
--- serials count from 1: no number of unknowns is enough for 0
-abbrev pub reach_of_serial : ℕ → ℕ
-reach_of_serial zero = 4294967296
-reach_of_serial (suc n) = suc n
-
-unfoldable pub reach_of_terms : List Term → ℕ
-reach_of_terms [] = 0
-reach_of_terms (t ∷ ts) = max (reach_of_serial t.serial) (reach_of_terms ts)
-
-abbrev pub reach_of_form : LinearForm → ℕ
-reach_of_form p = reach_of_terms p.terms
+-- VALUES, ITEMS AND MEANINGS
 
 -- an unknown that was made
 abbrev pub reach_of_fresh : Fresh → ℕ
 reach_of_fresh (Made serial) = reach_of_serial serial
 reach_of_fresh Limit = 0
-
--- what is known of an unknown: nothing, or the form that it equals
-abbrev pub reach_of_known : Option LinearForm → ℕ
-reach_of_known None = 0
-reach_of_known (Some p) = reach_of_form p
-
--- VALUES, ITEMS AND MEANINGS
 
 -- numbers count from 0
 abbrev pub one_symbol : ℕ → Counts
@@ -62,12 +41,9 @@ one_symbol symbol = record nothing { symbols = suc symbol }
 abbrev pub one_internal : ℕ → Counts
 one_internal k = record nothing { internals = suc k }
 
+-- a value speaks of unknowns and slots alone
 abbrev pub reach : Value → Counts
-reach (Boolean b) = nothing
-reach (Numeric p) = record nothing { unknowns = reach_of_form p }
-reach (Text bytes) = nothing
-reach (Unset kind slot) = record nothing { slots = suc slot }
-reach Vacuous = nothing
+reach v = record nothing { unknowns = unknowns_reached v; slots = slots_reached v }
 
 -- a capsule carries a value
 abbrev pub reach_of_item : Item → Counts

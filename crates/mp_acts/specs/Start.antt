@@ -16,18 +16,17 @@ drawing_words =
     codes "doublepath" ∷ codes "also" ∷ codes "withpen" ∷ codes "withcolor" ∷ codes "dashed" ∷ codes "clip" ∷
     codes "to" ∷ codes "setbounds" ∷ codes "shipout" ∷ codes "special" ∷ codes "randomseed" ∷ []
 
--- conditions, loops and files
+-- loops and files
 abbrev pub control_words : List (List ℕ)
 control_words =
-    codes "if" ∷ codes "elseif" ∷ codes "else" ∷ codes "fi" ∷ codes "for" ∷ codes "forsuffixes" ∷ codes "forever" ∷
+    codes "for" ∷ codes "forsuffixes" ∷ codes "forever" ∷
     codes "endfor" ∷ codes "exitif" ∷ codes "step" ∷ codes "until" ∷ codes "input" ∷ codes "endinput" ∷
-    codes "scantokens" ∷ codes "expandafter" ∷ codes ":" ∷ []
+    codes "scantokens" ∷ codes "expandafter" ∷ []
 
 -- operands, and operators that stand in front of one
 abbrev pub operand_words : List (List ℕ)
 operand_words =
-    codes "true" ∷ codes "false" ∷ codes "nullpicture" ∷ codes "pencircle" ∷ codes "jobname" ∷ codes "not" ∷
-    codes "known" ∷ codes "unknown" ∷ codes "cycle" ∷ codes "odd" ∷ codes "floor" ∷ codes "sqrt" ∷
+    codes "nullpicture" ∷ codes "pencircle" ∷ codes "cycle" ∷ codes "odd" ∷ codes "floor" ∷ codes "sqrt" ∷
     codes "mlog" ∷ codes "mexp" ∷ codes "sind" ∷ codes "cosd" ∷ codes "uniformdeviate" ∷ codes "angle" ∷
     codes "xpart" ∷ codes "ypart" ∷ codes "xxpart" ∷ codes "xypart" ∷ codes "yxpart" ∷ codes "yypart" ∷
     codes "redpart" ∷ codes "greenpart" ∷ codes "bluepart" ∷ codes "decimal" ∷ codes "char" ∷ codes "ASCII" ∷
@@ -38,8 +37,7 @@ operand_words =
 -- operators between two operands, and the signs of paths
 abbrev pub operator_words : List (List ℕ)
 operator_words =
-    codes "and" ∷ codes "or" ∷ codes "infont" ∷ codes "++" ∷ codes "+-+" ∷ codes "<" ∷ codes "<=" ∷ codes ">" ∷
-    codes ">=" ∷ codes "<>" ∷ codes "&" ∷ codes "scaled" ∷ codes "xscaled" ∷ codes "yscaled" ∷ codes "slanted" ∷
+    codes "infont" ∷ codes "++" ∷ codes "+-+" ∷ codes "scaled" ∷ codes "xscaled" ∷ codes "yscaled" ∷ codes "slanted" ∷
     codes "rotated" ∷ codes "zscaled" ∷ codes "shifted" ∷ codes "transformed" ∷ codes ".." ∷ codes "tension" ∷
     codes "controls" ∷ codes "atleast" ∷ codes "curl" ∷ codes "{" ∷ codes "}" ∷ []
 
@@ -114,13 +112,14 @@ with_more_internals table more = record table {
 unfoldable pub first_symbols : Table Meaning
 first_symbols = record { names = with_entries [] first_entries; internals = map (λ internal. internal.1) first_internals; saved = [] }
 
--- no variables, no unknowns, no events and no lines
-abbrev pub first_state : State
-first_state = record {
+-- no variables, no unknowns, no events and no lines; the job has that name
+abbrev pub first_state : List ℕ → State
+first_state job = record {
   symbols = first_symbols;
   variables = no_variables;
   slots = [];
   unknowns = record { states = []; names = [] };
   events = [];
   lines = [];
+  job = job;
 }

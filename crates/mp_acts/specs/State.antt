@@ -24,6 +24,8 @@ pub record State : Type 0 where
   pub events : List Event
   -- the lines so far
   pub lines : List ℕ
+  -- the name of the run's job
+  pub job : List ℕ
 
 -- the number of unknowns that values can speak of
 abbrev pub unknown_count : State → ℕ

@@ -13,8 +13,8 @@ use Rattle.mp_values.specs.declared.value.Value.TheVariants.{Numeric, Text}
 use Rattle.mp_vartree.specs.declared.names.Part.{Part}
 use Rattle.mp_vartree.specs.declared.names.Part.TheVariants as part
 use Rattle.mp_acts.specs.State.{State, symbol_name}
-use Rattle.mp_acts.specs.Operands.{up_to_date}
-use Rattle.mp_acts.specs.declared.limits.TheConstants.{TEXT_LIMIT}
+use Rattle.mp_acts.specs.Operators.{up_to_date}
+use Rattle.mp_ops.specs.declared.limits.TheConstants.{TEXT_LIMIT}
 
 -- a symbol behind a symbol has a point before it
 abbrev pub point_behind : Option Part → List ℕ

@@ -11,8 +11,9 @@ use Rattle.mp_values.specs.Words.{name_of_kind}
 use Rattle.mp_values.specs.declared.value.Kind.{Kind}
 use Rattle.mp_values.specs.declared.value.Value.{Value}
 use Rattle.mp_values.specs.declared.value.Value.TheVariants.{Boolean, Numeric, Text, Unset, Vacuous}
+use Rattle.mp_ops.specs.Store.{settled}
 use Rattle.mp_acts.specs.State.{State}
-use Rattle.mp_acts.specs.Operands.{up_to_date, settled}
+use Rattle.mp_acts.specs.Operators.{up_to_date}
 
 abbrev pub name_or_serial : Option (List ℕ) → ℕ → List ℕ
 name_or_serial (Some name) serial = name

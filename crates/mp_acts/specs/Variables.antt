@@ -23,7 +23,7 @@ use Rattle.mp_values.specs.declared.value.Kind.{Kind}
 use Rattle.mp_values.specs.declared.value.Kind.TheVariants as kind
 use Rattle.mp_values.specs.declared.value.Value.{Value}
 use Rattle.mp_values.specs.declared.value.Value.TheVariants.{Boolean, Numeric, Text, Unset, Vacuous}
-use Rattle.mp_vartree.specs.Kinds.{kind_of, is_kind}
+use Rattle.mp_values.specs.Kinds.{kind_of, is_kind}
 use Rattle.mp_vartree.specs.Variables as variables
 use Rattle.mp_vartree.specs.Variables.{Variables, variable_at, macro_of, wanted_kind, made, made_at}
 use Rattle.mp_vartree.specs.declared.answers.BadDeclaration.{BadDeclaration}
@@ -31,7 +31,7 @@ use Rattle.mp_vartree.specs.declared.entry.Variable.{Variable}
 use Rattle.mp_vartree.specs.declared.names.Part.{Part}
 use Rattle.mp_vartree.specs.declared.names.Shape.{Shape}
 use Rattle.mp_acts.specs.State.{State, symbol_meaning}
-use Rattle.mp_acts.specs.Operands.{up_to_date, operand, known}
+use Rattle.mp_acts.specs.Operators.{up_to_date, operand, known}
 use Rattle.mp_acts.specs.Suffixes.{variable_name}
 use Rattle.mp_acts.specs.declared.target.Target.{Target}
 use Rattle.mp_acts.specs.declared.target.Target.TheVariants as target

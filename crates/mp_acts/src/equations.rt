@@ -3,11 +3,12 @@
 ghost use Rattle.std.specs.Prelude.{◌≡◌, ◌≢◌, ◌≤◌, ◌<◌, length, Ok, Err, IfOk, IfErr};
 ghost use Rattle.mp_values.specs.Outcome.{Gives, IsWhole, change, error_of, then};
 ghost use Rattle.mp_values.specs.declared.fault.Fault.TheVariants.{NoMemory as WantOfMemory};
-ghost use Rattle.mp_vartree.specs.Kinds.{are_of_one_kind};
+ghost use Rattle.mp_values.specs.Kinds.{are_of_one_kind};
+ghost use Rattle.mp_ops.specs.Store.{reach_of_form};
 ghost use Rattle.mp_acts.specs.Counts.{IsWithin, nothing};
 ghost use Rattle.mp_acts.specs.State.{unknown_count, counts};
-ghost use Rattle.mp_acts.specs.Reach.{reach, reach_of_form};
-ghost use Rattle.mp_acts.specs.Operands.{up_to_date};
+ghost use Rattle.mp_acts.specs.Reach.{reach};
+ghost use Rattle.mp_acts.specs.Operators.{up_to_date};
 ghost use Rattle.mp_acts.specs.Equations.{IsAnswer};
 ghost use Rattle.mp_acts.specs.Equations as equations;
 
@@ -18,8 +19,7 @@ use mp_forms::Form;
 use mp_report::{Cap, SourceError};
 use mp_scaled::Bytes;
 use mp_solver::{Equated, TERM_LIMIT};
-use mp_values::{Fault, Value};
-use mp_vartree::have_one_kind;
+use mp_values::{Fault, Value, have_one_kind};
 use std::snapshot::Snapshot;
 
 impl State {
@@ -39,8 +39,8 @@ impl State {
         match (left, right) {
             (Value::Numeric(_), Value::Numeric(_)) => self.equate_numbers(left, right),
             _ => {
-                let left = self.settled(left).copy(self.alloc)?;
-                let right = self.settled(right).copy(self.alloc)?;
+                let left = self.store().settled(left).copy(self.alloc)?;
+                let right = self.store().settled(right).copy(self.alloc)?;
                 self.equate_settled(&left, &right)
             }
         }
@@ -137,7 +137,7 @@ impl State {
         ensures whole { IsWhole result self.old self.new }
         ensures counts { IsWithin (counts self.old) (counts self.new) }
     {
-        let difference = self.difference_by(b"=", left, right)?;
+        let difference = self.store().difference(b"=", left, right)?;
         self.vanish(&difference)
     }
 

@@ -146,8 +146,8 @@ impl State {
         ensures whole { IsWhole result self.old self.new }
         ensures counts { IsWithin (counts self.old) (counts self.new) }
     {
-        let form = self.operand(b"interim", value)?;
-        let value = self.known(b"interim", &form)?;
+        let form = self.store().operand(b"interim", value)?;
+        let value = self.store().known(b"interim", &form)?;
         self.save_internal(k)?;
         self.set_internal(k, value);
         Ok(())

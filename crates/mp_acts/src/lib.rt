@@ -8,7 +8,6 @@
 //! Want of memory leaves a state as it was, but where a call says otherwise.
 #![tactic(auto)]
 
-mod arithmetic;
 mod definitions;
 mod equations;
 mod event;
@@ -16,7 +15,8 @@ mod events;
 mod groups;
 mod limits;
 mod lines;
-mod operands;
+mod numbers;
+mod operators;
 mod start;
 mod state;
 mod suffixes;
@@ -26,6 +26,6 @@ mod texts;
 mod tokens;
 mod variables;
 
-pub use limits::{LINES_LIMIT, TEXT_LIMIT};
+pub use limits::LINES_LIMIT;
 pub use state::State;
 pub use target::Target;

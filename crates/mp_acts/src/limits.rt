@@ -2,6 +2,3 @@
 
 /// All lines together have at most so many bytes.
 pub const LINES_LIMIT: u32 = 16_777_216;
-
-/// A string has at most so many bytes.
-pub const TEXT_LIMIT: u32 = 65536;

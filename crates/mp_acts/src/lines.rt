@@ -61,7 +61,7 @@ impl State {
         ensures whole { IsWhole result self.old self.new }
         ensures counts { IsWithin (counts self.old) (counts self.new) }
     {
-        let text = self.text(b"message", value)?;
+        let text = self.store().text(b"message", value)?;
         self.do_line(text.as_slice())
     }
 
@@ -70,7 +70,7 @@ impl State {
         requires { IsWithin (reach value.now) (counts self.now) }
         ensures { Gives result self.now (lines.errmessage value.now self.now) }
     {
-        let text = self.text(b"errmessage", value)?;
+        let text = self.store().text(b"errmessage", value)?;
         let text = Bytes::copy_of(self.alloc, text.as_slice())?;
         Err(Fault::Refused(SourceError::UserError(text)))
     }
@@ -80,7 +80,7 @@ impl State {
         requires { IsWithin (reach value.now) (counts self.now) }
         ensures { Gives result self.now (lines.errhelp value.now self.now) }
     {
-        self.text(b"errhelp", value)?;
+        self.store().text(b"errhelp", value)?;
         Ok(())
     }
 

@@ -5,7 +5,7 @@ ghost use Rattle.mp_values.specs.Words.{words};
 ghost use Rattle.mp_acts.specs.Start.{with_more_names, with_more_internals, delimiter_entries, unbuilt_words, first_internals, word_entry, unbuilt_entry, first_symbols, first_state};
 
 use crate::State;
-use mp_scaled::{Bytes, NoMemory};
+use mp_scaled::{Bytes, NoMemory, SharedSlice};
 use mp_solver::System;
 use mp_symbols::Symbols;
 use mp_values::{Delimiters, Meaning, UnbuiltWord, Word};
@@ -13,10 +13,10 @@ use mp_vartree::Vars;
 use std::alloc::Global;
 
 impl State {
-    /// The state at the start of a run: the names of the language, no variables, no unknowns, no events
-    /// and no lines.
-    pub fn new(alloc: Global) -> Result<State, NoMemory>
-        ensures { IfOk result (λ state. state ≡ first_state) }
+    /// The state at the start of a run whose job has that name: the names of the language, no variables, no unknowns, no
+    /// events and no lines.
+    pub fn new(alloc: Global, job: &[u8]) -> Result<State, NoMemory>
+        ensures { IfOk result (λ state. state ≡ first_state job.now) }
     {
         Ok(State {
             alloc,
@@ -27,6 +27,7 @@ impl State {
             count: 0,
             events: Vec::new(alloc),
             lines: Bytes::new(alloc),
+            job: SharedSlice::from_vec(Bytes::copy_of(alloc, job)?.into_vec())?,
         })
     }
 }
@@ -140,12 +141,8 @@ const DRAWING_WORDS: [&[u8]; 20] = [
     b"randomseed",
 ];
 
-/// Conditions, loops and files.
-const CONTROL_WORDS: [&[u8]; 16] = [
-    b"if",
-    b"elseif",
-    b"else",
-    b"fi",
+/// Loops and files.
+const CONTROL_WORDS: [&[u8]; 11] = [
     b"for",
     b"forsuffixes",
     b"forever",
@@ -157,19 +154,12 @@ const CONTROL_WORDS: [&[u8]; 16] = [
     b"endinput",
     b"scantokens",
     b"expandafter",
-    b":",
 ];
 
 /// Operands, and operators that stand in front of one.
-const OPERAND_WORDS: [&[u8]; 46] = [
-    b"true",
-    b"false",
+const OPERAND_WORDS: [&[u8]; 40] = [
     b"nullpicture",
     b"pencircle",
-    b"jobname",
-    b"not",
-    b"known",
-    b"unknown",
     b"cycle",
     b"odd",
     b"floor",
@@ -211,18 +201,10 @@ const OPERAND_WORDS: [&[u8]; 46] = [
 ];
 
 /// Operators between two operands, and the signs of paths.
-const OPERATOR_WORDS: [&[u8]; 26] = [
-    b"and",
-    b"or",
+const OPERATOR_WORDS: [&[u8]; 18] = [
     b"infont",
     b"++",
     b"+-+",
-    b"<",
-    b"<=",
-    b">",
-    b">=",
-    b"<>",
-    b"&",
     b"scaled",
     b"xscaled",
     b"yscaled",

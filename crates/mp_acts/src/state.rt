@@ -4,7 +4,7 @@ ghost use Rattle.std.specs.Prelude.{◌≡◌};
 ghost use Rattle.mp_acts.specs.State.{made_unknowns, accepted_equations};
 
 use crate::event::Event;
-use mp_scaled::Bytes;
+use mp_scaled::{Bytes, SharedSlice};
 use mp_solver::System;
 use mp_symbols::Symbols;
 use mp_values::{Meaning, Value};
@@ -12,7 +12,8 @@ use mp_vartree::Vars;
 use std::alloc::Global;
 use std::marker::Model;
 
-/// What statements act on. Contracts see the symbols, the variables, the slots, the unknowns, the events and the lines.
+/// What statements act on. Contracts see the symbols, the variables, the slots, the unknowns, the events, the
+/// lines and the name of the job.
 ///
 /// The variables, the macros, the slots and the meanings of symbols speak of nothing that there is not, and the unknowns
 /// are what the events, and no others, have made of them.
@@ -29,6 +30,8 @@ pub struct State {
     /// What made the unknowns what they are, in order.
     pub(crate) events: Vec<Event>,
     pub(crate) lines: Bytes,
+    /// The name of the run's job.
+    pub(crate) job: SharedSlice<u8>,
 }
 
 impl Model for State {
@@ -46,6 +49,7 @@ impl Model for State {
       unknowns = s.system.unknowns;
       events = map event_of s.events.items;
       lines = s.lines;
+      job = s.job;
     } };
 
     ghost invariant = { λ s. IsKept s.count s.system.unknowns s.variables s.slots.items s.symbols (map event_of s.events.items) };

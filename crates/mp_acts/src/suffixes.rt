@@ -9,8 +9,8 @@ ghost use Rattle.mp_acts.specs.Reach.{reach, reach_of_part};
 ghost use Rattle.mp_acts.specs.Suffixes as suffixes;
 
 use crate::State;
-use crate::limits::TEXT_LIMIT;
 use crate::texts::push_scaled;
+use mp_ops::TEXT_LIMIT;
 use mp_report::{Cap, SourceError};
 use mp_scaled::{Bytes, NoMemory, SharedSlice};
 use mp_values::{Fault, Value};

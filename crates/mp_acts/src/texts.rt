@@ -4,9 +4,10 @@ ghost use Rattle.std.specs.Prelude.{◌≡◌, ◌≤◌, ◌^◌, ◌∷◌, �
 ghost use Rattle.mp_scaled.specs.Print.{printed};
 ghost use Rattle.mp_pool.specs.Terms.{IsCoefficient};
 ghost use Rattle.mp_values.specs.Outcome.{Gives};
+ghost use Rattle.mp_ops.specs.Store.{reach_of_form, reach_of_terms, reach_of_serial};
 ghost use Rattle.mp_acts.specs.Counts.{IsWithin, nothing};
 ghost use Rattle.mp_acts.specs.State.{unknown_count, counts};
-ghost use Rattle.mp_acts.specs.Reach.{reach, reach_of_form, reach_of_terms, reach_of_serial};
+ghost use Rattle.mp_acts.specs.Reach.{reach};
 ghost use Rattle.mp_acts.specs.Texts as texts;
 
 use crate::State;
@@ -26,7 +27,8 @@ impl State {
         requires { IsWithin (reach value.now) (counts self.now) }
         ensures { Gives result self.now (texts.value_text value.now self.now) }
     {
-        self.settled_text(self.settled(value))
+        let store = self.store();
+        self.settled_text(store.settled(value))
     }
 
     /// What is shown of a value that is no filled slot.
@@ -79,7 +81,7 @@ impl State {
     }
 
     /// Adds terms, of which there is a first, and the constant behind them.
-    #[tactic(auto, unfolding(crate::specs::Reach::reach_of_terms))]
+    #[tactic(auto, unfolding(mp_ops::specs::Store::reach_of_terms))]
     fn push_sum(
         &self,
         text: &mut Bytes,

@@ -7,12 +7,13 @@ ghost use Rattle.mp_values.specs.Outcome.{Gives, IsWhole, change};
 ghost use Rattle.mp_values.specs.declared.fault.Fault.TheVariants.{NoMemory as WantOfMemory};
 ghost use Rattle.mp_values.specs.declared.meaning.Meaning.TheVariants.{NewTag};
 ghost use Rattle.mp_values.specs.declared.value.Value.TheVariants.{Numeric};
-ghost use Rattle.mp_vartree.specs.Kinds.{kind_of, is_kind};
+ghost use Rattle.mp_values.specs.Kinds.{kind_of, is_kind};
 ghost use Rattle.mp_vartree.specs.Variables.{variable_at, wanted_kind, declare, define_macro};
+ghost use Rattle.mp_ops.specs.Store.{reach_of_serial};
 ghost use Rattle.mp_acts.specs.Counts.{IsWithin, greatest, nothing};
 ghost use Rattle.mp_acts.specs.State.{unknown_count, symbol_count, internal_count, symbol_name, symbol_meaning, internal_value, counts};
-ghost use Rattle.mp_acts.specs.Reach.{reach, reach_of_serial, reach_of_fresh, reach_of_part, reach_of_target, reach_of_macro, reach_of_meaning};
-ghost use Rattle.mp_acts.specs.Arithmetic.{known_number};
+ghost use Rattle.mp_acts.specs.Reach.{reach, reach_of_fresh, reach_of_part, reach_of_target, reach_of_macro, reach_of_meaning};
+ghost use Rattle.mp_acts.specs.Numbers.{known_number};
 ghost use Rattle.mp_acts.specs.Variables as variables;
 ghost use Rattle.mp_acts.specs.Variables.{IsReadInPart, IsForgetting, is_tag};
 
@@ -23,8 +24,8 @@ use mp_macro::Defined;
 use mp_report::{Cap, SourceError};
 use mp_scaled::{Bytes, NoMemory, Shared};
 use mp_solver::{Fresh, System, UNKNOWN_LIMIT};
-use mp_values::{Fault, Kind, Level, Macro, Meaning, Value};
-use mp_vartree::{BadDeclaration, Part, Shape, Variable, has_kind, variables_are_a_map};
+use mp_values::{Fault, Kind, Level, Macro, Meaning, Value, has_kind};
+use mp_vartree::{BadDeclaration, Part, Shape, Variable, variables_are_a_map};
 use std::alloc::Global;
 use std::snapshot::Snapshot;
 
@@ -47,7 +48,7 @@ impl State {
     }
 
     /// The value of an internal.
-    #[tactic(auto, unfolding(crate::specs::Reach::reach_of_terms))]
+    #[tactic(auto, unfolding(mp_ops::specs::Store::reach_of_terms))]
     pub fn internal(&self, k: u32) -> Value
         requires { k < internal_count self.now }
         ensures exact { result ≡ known_number (internal_value self.now k) }
@@ -442,8 +443,8 @@ impl State {
         ensures whole { IsWhole result self.old self.new }
         ensures counts { IsWithin (counts self.old) (counts self.new) }
     {
-        let form = self.operand(b":=", value)?;
-        let value = self.known(b":=", &form)?;
+        let form = self.store().operand(b":=", value)?;
+        let value = self.store().known(b":=", &form)?;
         self.set_internal(k, value);
         Ok(())
     }
@@ -500,7 +501,7 @@ impl State {
 }
 
 /// The unknown itself, as a value.
-#[tactic(auto, unfolding(crate::specs::Reach::reach_of_terms))]
+#[tactic(auto, unfolding(mp_ops::specs::Store::reach_of_terms))]
 fn unknown_value(alloc: Global, serial: u32) -> Result<Value, NoMemory>
     ensures exact { IfOk result (λ v. v ≡ Numeric (variables.unknown_form serial)) }
     ensures reaches { IfOk result (λ v. reach v ≡ record nothing { unknowns = reach_of_serial serial }) }

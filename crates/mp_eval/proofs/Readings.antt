@@ -20,6 +20,7 @@ use Rattle.mp_eval.specs.declared.outcome.Run.{Run}
 use Rattle.mp_eval.specs.declared.outcome.RunEnd.TheVariants as ends
 use Rattle.mp_eval.specs.declared.running.TheConstants.{LONGEST_TEXT}
 use Rattle.mp_eval.specs.Gives.{IsSpent}
+use Rattle.mp_eval.specs.Job.{job_of}
 use Rattle.mp_eval.specs.Run.{room_by, read_to_end, unread, put_file, put_prelude, no_place}
 use Rattle.mp_eval.specs.Readings.{RanAs, IsPut, IsPreluded, asked_on, begun_on, only, unbegun_run}
 
@@ -56,9 +57,9 @@ same_budget (b ∷ prelude) bytes s = refl
 -- a text that is too long is not built
 pub long_ran : (prelude name bytes : List ℕ) (budget : ℕ) (run : Run) → LONGEST_TEXT < length bytes
     → run ≡ unbegun_run (only name (Here bytes)) (ends.Source (error.NotBuilt (codes "long")) no_place)
-    → RanAs run (read_to_end prelude bytes (asked_on (only name (Here bytes)) budget)) (asked_on (only name (Here bytes)) budget)
+    → RanAs run (read_to_end prelude bytes (asked_on (only name (Here bytes)) name budget)) (asked_on (only name (Here bytes)) name budget)
 long_ran prelude name bytes budget run long is =
-    let start : Machine = asked_on (only name (Here bytes)) budget in
+    let start : Machine = asked_on (only name (Here bytes)) name budget in
     let unbegun : Run = unbegun_run (only name (Here bytes)) (ends.Source (error.NotBuilt (codes "long")) no_place) in
     subst (λ (r : Run). RanAs r (read_to_end prelude bytes start) start) (sym is)
     (subst (λ (o : Outcome (Unit {0})). RanAs unbegun o start) (sym (long_is prelude bytes start long))
@@ -66,10 +67,10 @@ long_ran prelude name bytes budget run long is =
 
 -- a text that is not is read to its end
 pub short_ran : (prelude name bytes : List ℕ) (budget : ℕ) (run : Run) → length bytes ≤ LONGEST_TEXT
-    → RanAs run (whole the (begun_on (only name (Here bytes)) prelude bytes budget)) (begun_on (only name (Here bytes)) prelude bytes budget)
-    → RanAs run (read_to_end prelude bytes (asked_on (only name (Here bytes)) budget)) (asked_on (only name (Here bytes)) budget)
+    → RanAs run (whole the (begun_on (only name (Here bytes)) prelude name bytes budget)) (begun_on (only name (Here bytes)) prelude name bytes budget)
+    → RanAs run (read_to_end prelude bytes (asked_on (only name (Here bytes)) name budget)) (asked_on (only name (Here bytes)) name budget)
 short_ran prelude name bytes budget run short ran =
-    let start : Machine = asked_on (only name (Here bytes)) budget in
+    let start : Machine = asked_on (only name (Here bytes)) name budget in
     subst (λ (o : Outcome (Unit {0})). RanAs run o start) (sym (short_is prelude bytes start short)) (record {
       lines = ran.lines;
       figures = ran.figures;
@@ -84,26 +85,26 @@ short_ran prelude name bytes budget run short ran =
     })
 
 -- the start of a text, by what was put in front of nothing
-pub begins : (kept : List Kept) (sources : List Kept) (prelude bytes read : List ℕ) (budget : ℕ) (first middle last : State) (text more : List Pending) (none one both : Expansion) (m : Machine)
-    → first ≡ first_state → none ≡ unread budget → read ≡ bytes → kept ≡ sources
+pub begins : (kept : List Kept) (sources : List Kept) (prelude name bytes read : List ℕ) (budget : ℕ) (first middle last : State) (text more : List Pending) (none one both : Expansion) (m : Machine)
+    → first ≡ first_state (job_of name) → none ≡ unread budget → read ≡ bytes → kept ≡ sources
     → IsPut 1 read first none.text middle text → one ≡ record none { text = text }
     → IsPreluded prelude middle one.text last more → both ≡ record one { text = more }
-    → m ≡ start_on kept both last → m ≡ begun_on sources prelude bytes budget
-begins kept sources [] bytes read budget first middle last text more none one both m a n r k b c d e f = rw (f, e, d.1, d.0, c, b.1, b.0, a, n, r, k) refl
-begins kept sources (byte ∷ prelude) bytes read budget first middle last text more none one both m a n r k b c d e f = rw (f, e, d.1, d.0, c, b.1, b.0, a, n, r, k) refl
+    → m ≡ start_on kept both last → m ≡ begun_on sources prelude name bytes budget
+begins kept sources [] name bytes read budget first middle last text more none one both m a n r k b c d e f = rw (f, e, d.1, d.0, c, b.1, b.0, a, n, r, k) refl
+begins kept sources (byte ∷ prelude) name bytes read budget first middle last text more none one both m a n r k b c d e f = rw (f, e, d.1, d.0, c, b.1, b.0, a, n, r, k) refl
 
 -- what was read of a text, if memory was found
 pub short_result : (prelude name bytes : List ℕ) (budget : ℕ) (result : Result Run NoMemory) (begun : Machine) → length bytes ≤ LONGEST_TEXT
-    → begun ≡ begun_on (only name (Here bytes)) prelude bytes budget
+    → begun ≡ begun_on (only name (Here bytes)) prelude name bytes budget
     → IfOk result (λ run. RanAs run (whole the begun) begun)
-    → IfOk result (λ run. RanAs run (read_to_end prelude bytes (asked_on (only name (Here bytes)) budget)) (asked_on (only name (Here bytes)) budget))
+    → IfOk result (λ run. RanAs run (read_to_end prelude bytes (asked_on (only name (Here bytes)) name budget)) (asked_on (only name (Here bytes)) name budget))
 short_result prelude name bytes budget (Ok run) begun short is ran = short_ran prelude name bytes budget run short (subst (λ (m : Machine). RanAs run (whole the m) m) is ran)
 short_result prelude name bytes budget (Err e) begun short is ran = tt
 
 pub within_result : (prelude name bytes : List ℕ) (budget : ℕ) (result : Result Run NoMemory) (begun : Machine)
-    → begun ≡ begun_on (only name (Here bytes)) prelude bytes budget
+    → begun ≡ begun_on (only name (Here bytes)) prelude name bytes budget
     → IfOk result (λ run. run.steps ≤ begun.expander.budget) → IfOk result (λ run. run.steps ≤ budget)
 within_result prelude name bytes budget (Ok run) begun is within =
-    let same : begun.expander.budget ≡ budget = ap (λ (m : Machine). m.expander.budget) is ∙ same_budget prelude bytes (asked_on (only name (Here bytes)) budget) in
+    let same : begun.expander.budget ≡ budget = ap (λ (m : Machine). m.expander.budget) is ∙ same_budget prelude bytes (asked_on (only name (Here bytes)) name budget) in
     subst (λ (b : ℕ). run.steps ≤ b) same within
 within_result prelude name bytes budget (Err e) begun is within = tt

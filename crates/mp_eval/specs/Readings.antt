@@ -16,6 +16,7 @@ use Rattle.mp_rules.specs.Starts.{start_on}
 use Rattle.mp_eval.specs.declared.outcome.Run.{Run}
 use Rattle.mp_eval.specs.declared.outcome.RunEnd.{RunEnd}
 use Rattle.mp_eval.specs.declared.outcome.RunEnd.TheVariants as ends
+use Rattle.mp_eval.specs.Job.{job_of}
 use Rattle.mp_eval.specs.Run.{Ending, Stopped, course_of, no_place, unread, put_file, put_prelude}
 use Rattle.mp_eval.specs.Gives.{run_end_of, IsSpent}
 
@@ -24,13 +25,13 @@ abbrev pub IsRead : Ending → Type 0
 IsRead (Stopped (Unread name) place) = ⊥
 IsRead ending = Unit {0}
 
--- before the text of the one source, which was asked for
-abbrev pub asked_on : List Kept → ℕ → Machine
-asked_on sources budget = start_on sources (unread budget) first_state
+-- before the text of the main file of that name, which was asked for
+abbrev pub asked_on : List Kept → List ℕ → ℕ → Machine
+asked_on sources name budget = start_on sources (unread budget) (first_state (job_of name))
 
 -- at the start of its text, behind a prelude
-abbrev pub begun_on : List Kept → List ℕ → List ℕ → ℕ → Machine
-begun_on sources prelude bytes budget = put_prelude prelude (put_file 1 bytes (asked_on sources budget))
+abbrev pub begun_on : List Kept → List ℕ → List ℕ → List ℕ → ℕ → Machine
+begun_on sources prelude name bytes budget = put_prelude prelude (put_file 1 bytes (asked_on sources name budget))
 
 -- a run goes by an outcome of rules that began with these sources
 pub record RanAs (run : Run) (outcome : Outcome (Unit {0})) (start : Machine) : Type 0 where

@@ -16,6 +16,7 @@ use Rattle.mp_rules.specs.Meaning.{the}
 use Rattle.mp_rules.specs.Starts.{start_on, whole}
 use Rattle.mp_rules.specs.Steps.{place_of}
 use Rattle.mp_eval.specs.Files.{bytes_of_file}
+use Rattle.mp_eval.specs.Job.{job_of}
 use Rattle.mp_eval.specs.declared.outcome.Figure.{Figure}
 use Rattle.mp_eval.specs.declared.running.TheConstants.{LONGEST_TEXT}
 
@@ -73,11 +74,11 @@ no_place = record { file = 0; line = 0 }
 
 -- a text of which nothing is there yet
 abbrev pub unread : ℕ → Expansion
-unread budget = record { text = []; last = no_place; steps = 0; budget = budget; nesting = 0; requests = [] }
+unread budget = record { text = []; last = no_place; steps = 0; budget = budget; nesting = 0; requests = []; conditions = [] }
 
 -- before anything is asked for or read
-abbrev pub first_machine : List Kept → ℕ → Machine
-first_machine sources budget = record (start_on sources (unread budget) first_state) { asked = [] }
+abbrev pub first_machine : List Kept → List ℕ → ℕ → Machine
+first_machine sources name budget = record (start_on sources (unread budget) (first_state (job_of name))) { asked = [] }
 
 abbrev pub course_to : Machine → Ending → Course
 course_to s ending = record {
@@ -96,4 +97,4 @@ course_of (Err e) = course_to e.1 (Stopped e.0 (place_of e.1))
 
 -- the run of the main file of that name over these sources, behind a prelude
 unfoldable pub run_of : List Kept → List ℕ → List ℕ → ℕ → Course
-run_of sources prelude name budget = course_of (main_run prelude name (first_machine sources budget))
+run_of sources prelude name budget = course_of (main_run prelude name (first_machine sources name budget))

@@ -10,6 +10,7 @@ ghost use Rattle.mp_eval.specs.Gives.{RunGives, starved_run};
 ghost use Rattle.mp_eval.specs.Readings.{RanAs, IsPut, IsPreluded, asked_on, begun_on, only, unbegun_run, no_such_file as absent_end};
 ghost use Rattle.mp_eval.specs.Run.{read_to_end};
 
+use crate::job::job_of;
 use crate::name::can_be_asked;
 use crate::outcome::{Run, RunEnd};
 use mp_acts::State;
@@ -70,9 +71,9 @@ fn evaluator_of(
     bytes: Bytes,
     budget: u64,
 ) -> Result<Evaluator, NoMemory>
-    ensures { IfOk result (λ e. e ≡ begun_on (only name.now (Contents.Here bytes)) prelude.now bytes budget) }
+    ensures { IfOk result (λ e. e ≡ begun_on (only name.now (Contents.Here bytes)) prelude.now name.now bytes budget) }
 {
-    let mut acts = State::new(alloc)?;
+    let mut acts = State::new(alloc, job_of(name))?;
     let mut expander = Expander::new(alloc, budget);
     put_file(alloc, &mut acts, &mut expander, 1, bytes.as_slice())?;
     put_prelude(alloc, &mut acts, &mut expander, prelude)?;
@@ -163,7 +164,7 @@ fn try_run_on(
     bytes: Bytes,
     budget: u64,
 ) -> Result<Run, NoMemory>
-    ensures ran { IfOk result (λ run. RanAs run (read_to_end prelude.now bytes (asked_on (only name.now (Contents.Here bytes)) budget)) (asked_on (only name.now (Contents.Here bytes)) budget)) }
+    ensures ran { IfOk result (λ run. RanAs run (read_to_end prelude.now bytes (asked_on (only name.now (Contents.Here bytes)) name.now budget)) (asked_on (only name.now (Contents.Here bytes)) name.now budget)) }
     ensures within { IfOk result (λ run. run.steps ≤ budget) }
 {
     if bytes.as_slice().len() > LONGEST_TEXT {
@@ -174,7 +175,7 @@ fn try_run_on(
 
 /// The run over the bytes that were fetched.
 fn run_on(alloc: Global, prelude: &[u8], name: &[u8], bytes: Bytes, budget: u64) -> Run
-    ensures ran { (result ≡ starved_run) ⊎ RanAs result (read_to_end prelude.now bytes (asked_on (only name.now (Contents.Here bytes)) budget)) (asked_on (only name.now (Contents.Here bytes)) budget) }
+    ensures ran { (result ≡ starved_run) ⊎ RanAs result (read_to_end prelude.now bytes (asked_on (only name.now (Contents.Here bytes)) name.now budget)) (asked_on (only name.now (Contents.Here bytes)) name.now budget) }
     ensures within { result.steps ≤ budget }
 {
     match try_run_on(alloc, prelude, name, bytes, budget) {

@@ -17,14 +17,17 @@ use Rattle.mp_values.specs.declared.meaning.Meaning.{Meaning}
 use Rattle.mp_values.specs.declared.meaning.Meaning.TheVariants as meaning
 use Rattle.mp_values.specs.declared.turn.Pending.{Pending}
 use Rattle.mp_values.specs.declared.turn.Pending.TheVariants as pending
+use Rattle.mp_values.specs.declared.word.Condition.{Condition}
+use Rattle.mp_values.specs.declared.word.Condition.TheVariants as condition
 use Rattle.mp_values.specs.declared.word.Word.{Word}
 use Rattle.mp_values.specs.declared.word.Word.TheVariants as word
-use Rattle.mp_expand.specs.Expansion.{Expansion, Rule, with_requests, reading, reading_by, opening, opening_by, waiting, waiting_by}
+use Rattle.mp_expand.specs.Expansion.{Expansion, Rule, NewestAs, with_requests, reading, opening, asking}
 use Rattle.mp_expand.specs.Steps.{take_first, take_from, enter}
 use Rattle.mp_expand.specs.Fronts.{Table, meaning_of}
-use Rattle.mp_expand.specs.Calls.{are_pair, argument_next, parameter_next, ask, ask_last, argument, with_argument, go_on, go_on_by, call}
+use Rattle.mp_expand.specs.Calls.{are_pair, argument_next, parameter_next, ask_for, ask, ask_last, argument, with_argument, go_on, go_on_by, call}
 use Rattle.mp_expand.specs.Texts.{mark_of, text_ends, symbol_in_text, item_in_text, taken_in_text}
-use Rattle.mp_expand.specs.Advance.{opened, reached, reached_by, macro_by, symbol_expanded, item_expanded, expanded, taken_by, advance, comma_by, unclosed, right_by, delimited, of_by, behind, items_of, answered, answered_by}
+use Rattle.mp_expand.specs.Conditions.{colon, branch_by, branch, else_branch, met_in, condition_in, condition_skipped, symbol_skipped, item_skipped, skipped}
+use Rattle.mp_expand.specs.Advance.{opened, front_of, opened_by, reached, reached_by, macro_by, word_expanded, symbol_expanded, item_expanded, expanded, read_by, taken_by, advance, comma_by, unclosed, right_by, delimited, of_by, behind, items_of, is_true, answered, answered_to, answered_by}
 use Rattle.mp_expand.specs.Laws.{cost, cost_of_first, unused, IsRefused, IsSpent, Pays, IsFree, GoesOn, MayFollow, StepsAreCounted}
 use Rattle.mp_expand.specs.declared.front.Front.{Front}
 use Rattle.mp_expand.specs.declared.front.Front.TheVariants as front
@@ -34,9 +37,19 @@ use Rattle.mp_expand.specs.declared.request.Behind.TheVariants as behind_it
 use Rattle.mp_expand.specs.declared.request.Call.{Call}
 use Rattle.mp_expand.specs.declared.request.Delimited.{Delimited}
 use Rattle.mp_expand.specs.declared.request.Delimited.TheVariants as between
-use Rattle.mp_expand.specs.declared.request.Need.{Need}
+use Rattle.mp_expand.specs.declared.request.Asker.{Asker}
+use Rattle.mp_expand.specs.declared.request.Asker.TheVariants as asker
+use Rattle.mp_expand.specs.declared.request.Branch.{Branch}
+use Rattle.mp_expand.specs.declared.request.Branch.TheVariants as branch_of
 use Rattle.mp_expand.specs.declared.request.Need.TheVariants as need
+use Rattle.mp_expand.specs.declared.request.Opener.{Opener}
+use Rattle.mp_expand.specs.declared.request.Opener.TheVariants as opener
+use Rattle.mp_expand.specs.declared.request.Reader.{Reader}
+use Rattle.mp_expand.specs.declared.request.Reader.TheVariants as reader
 use Rattle.mp_expand.specs.declared.request.Request.{Request}
+use Rattle.mp_expand.specs.declared.request.Request.TheVariants as request
+use Rattle.mp_expand.specs.declared.request.Skip.{Skip}
+use Rattle.mp_expand.specs.declared.request.Skip.TheVariants as skip
 use Rattle.mp_expand.specs.declared.request.Until.{Until}
 use Rattle.mp_expand.specs.declared.request.Until.TheVariants as until
 use Rattle.mp_expand.specs.declared.step.Answer.{Answer}
@@ -79,8 +92,11 @@ enter_free : (s : Expansion) → IsFree Done s (enter s)
 unfolding enter
 enter_free s = entered_by (nat_lt s.nesting NESTING_LIMIT) s
 
+ask_for_free : (r : Request) (w : Want) (s : Expansion) → IsFree GoesOn s (ask_for r w s)
+ask_for_free r w s = free_then Done GoesOn s (enter s) _ (enter_free s) (λ entered t eb es q. (eb, es, tt))
+
 ask_free : (c : Call) (b : Behind) (w : Want) (s : Expansion) → IsFree GoesOn s (ask c b w s)
-ask_free c b w s = free_then Done GoesOn s (enter s) _ (enter_free s) (λ entered t eb es q. (eb, es, tt))
+ask_free c b w s = ask_for_free (request.Call c (need.Answer b)) w s
 
 argument_free : (c : Call) (pair : Delimiters) (k : Delimited) (s : Expansion) → IsFree GoesOn s (argument c pair k s)
 argument_free c pair between.Expr s = ask_free c (behind_it.Delimiter pair) (want.Followed operand.Expression) s
@@ -163,21 +179,53 @@ behind_free table c (behind_it.Delimiter pair) x s = delimited_free table c pair
 behind_free table c behind_it.Of x s = of_free table c x s
 behind_free table c behind_it.Anything x s = (refl, refl, tt)
 
-waiting_free : (table : Table) (items : List Item) (x : Front) (c : Call) (rs : List Request) (n : Need) (s : Expansion)
-    → IsFree (MayFollow x) s (answered_by table items x (waiting_by c rs n) s)
-waiting_free table items x c rs (need.Answer b) s =
-    let t : Expansion = record s { nesting = s.nesting - 1; requests = rs } in
-    let more : Call = with_argument items c in
-    free_from (MayFollow x) s t (behind table more b x t) refl refl (behind_free table more b x t)
-waiting_free table items x c rs n s = (refl, refl, tt)
+-- a branch asks for nothing
+abbrev IsMore : Step → Type 0
+IsMore step.More = ⊤
+IsMore other = ⊥
 
-answered_by_free : (table : Table) (items : List Item) (x : Front) (rs : List Request) (s : Expansion) → IsFree (MayFollow x) s (answered_by table items x (waiting rs) s)
-answered_by_free table items x [] s = (refl, refl, tt)
-answered_by_free table items x (r ∷ rs) s = waiting_free table items x r.call rs r.need s
+more_follows : (x : Front) (y : Step) → IsMore y → MayFollow x y
+more_follows x step.More h = tt
+more_follows x other h = absurd h
+
+more_goes_on : (y : Step) → IsMore y → GoesOn y
+more_goes_on step.More h = tt
+more_goes_on other h = absurd h
+
+branch_by_free : (truth : Bool) (s : Expansion) → IsFree IsMore s (branch_by truth s)
+branch_by_free true s = (refl, refl, tt)
+branch_by_free false s = (refl, refl, tt)
+
+colon_word_free : (table : Table) (symbol : ℕ) (w : Word) (s : Expansion) → IsFree Done s (colon table (front.Word symbol w) s)
+colon_word_free table symbol word.Colon s = (refl, refl, tt)
+colon_word_free table symbol w s = (refl, refl, tt)
+
+colon_free : (table : Table) (x : Front) (s : Expansion) → IsFree Done s (colon table x s)
+colon_free table (front.Word symbol w) s = colon_word_free table symbol w s
+colon_free table x s = (refl, refl, tt)
+
+branch_free : (table : Table) (truth : Bool) (x : Front) (s : Expansion) → IsFree IsMore s (branch table truth x s)
+branch_free table truth x s =
+    free_then Done IsMore s (colon table x s) _ (colon_free table x s)
+    (λ stands t eb es q. free_from IsMore s t (branch_by truth t) eb es (branch_by_free truth t))
+
+else_branch_free : (table : Table) (x : Front) (s : Expansion) → IsFree IsMore s (else_branch table x s)
+else_branch_free table x s = free_then Done IsMore s (colon table x s) _ (colon_free table x s) (λ stands t eb es q. (eb, es, tt))
+
+answered_to_free : (table : Table) (a : Answer) (x : Front) (q : Asker) (s : Expansion) → IsFree (MayFollow x) s (answered_to table a x q s)
+answered_to_free table a x (asker.Argument c b) s = behind_free table (with_argument (items_of a) c) b x s
+answered_to_free table a x asker.Branch s =
+    weaker IsMore (MayFollow x) s (branch table (is_true a) x s) (more_follows x) (branch_free table (is_true a) x s)
+
+answered_by_free : (table : Table) (a : Answer) (x : Front) (newest : NewestAs Asker) (s : Expansion) → IsFree (MayFollow x) s (answered_by table a x newest s)
+answered_by_free table a x (Some (q, rs)) s =
+    let t : Expansion = record s { nesting = s.nesting - 1; requests = rs } in
+    free_from (MayFollow x) s t (answered_to table a x q t) refl refl (answered_to_free table a x q t)
+answered_by_free table a x None s = (refl, refl, tt)
 
 answered_free : (table : Table) (a : Answer) (x : Front) (s : Expansion) → IsFree (MayFollow x) s (answered table a x s)
 unfolding answered
-answered_free table a x s = answered_by_free table (items_of a) x s.requests s
+answered_free table a x s = answered_by_free table a x (asking s.requests) s
 
 -- AN ITEM THAT WAS TAKEN
 
@@ -233,6 +281,42 @@ taken_in_text_costs table c u depth (Some (pending.Item x)) s = item_in_text_cos
 taken_in_text_costs table c u depth (Some (pending.Turn turn)) s = (refl, refl, omega arith)
 taken_in_text_costs table c u depth None s = (refl, refl, tt)
 
+-- WORDS OF CONDITIONS
+
+ask_costs : (r : Request) (w : Want) (s : Expansion) → IsFree (Costs 1) s (ask_for r w s)
+ask_costs r w s = weaker GoesOn (Costs 1) s (ask_for r w s) on_costs (ask_for_free r w s)
+
+met_costs : (w : Condition) (bs : List Branch) (s : Expansion) → IsFree (Costs 1) s (met_in w bs s)
+met_costs condition.If bs s = ask_costs (request.Truth condition.If) (want.Followed (operand.Condition condition.If)) s
+met_costs condition.Fi (b ∷ bs) s = (refl, refl, omega arith)
+met_costs w (branch_of.BeforeElse ∷ bs) s = (refl, refl, omega arith)
+met_costs w bs s = (refl, refl, tt)
+
+condition_skipped_costs : (k : Skip) (depth : ℕ) (w : Condition) (s : Expansion) → IsFree (Costs 1) s (condition_skipped k depth w s)
+condition_skipped_costs k depth condition.If s = (refl, refl, omega arith)
+condition_skipped_costs k (suc depth) condition.Fi s = (refl, refl, omega arith)
+condition_skipped_costs k zero condition.Fi s = (refl, refl, omega arith)
+condition_skipped_costs skip.ToBranch zero condition.Elseif s =
+    ask_costs (request.Truth condition.Elseif) (want.Followed (operand.Condition condition.Elseif)) s
+condition_skipped_costs skip.ToBranch zero condition.Else s = (refl, refl, omega arith)
+condition_skipped_costs k depth w s = (refl, refl, omega arith)
+
+symbol_skipped_costs : (k : Skip) (depth : ℕ) (w : Option Condition) (s : Expansion) → IsFree (Costs 1) s (symbol_skipped k depth w s)
+symbol_skipped_costs k depth (Some w) s = condition_skipped_costs k depth w s
+symbol_skipped_costs k depth None s = (refl, refl, omega arith)
+
+item_skipped_costs : (table : Table) (k : Skip) (depth : ℕ) (x : Item) (s : Expansion) → IsFree (Costs 1) s (item_skipped table k depth x s)
+item_skipped_costs table k depth (item.Symbol symbol) s = symbol_skipped_costs k depth (condition_in (meaning_of table symbol)) s
+item_skipped_costs table k depth item.FileEnd s = (refl, refl, tt)
+item_skipped_costs table k depth item.EndOfText s = (refl, refl, tt)
+item_skipped_costs table k depth (item.Bad cause) s = (refl, refl, tt)
+item_skipped_costs table k depth x s = (refl, refl, omega arith)
+
+skipped_costs : (table : Table) (k : Skip) (depth : ℕ) (x : Option Pending) (s : Expansion) → IsFree (Costs (cost_of_first x)) s (skipped table k depth x s)
+skipped_costs table k depth (Some (pending.Item x)) s = item_skipped_costs table k depth x s
+skipped_costs table k depth (Some (pending.Turn turn)) s = (refl, refl, omega arith)
+skipped_costs table k depth None s = (refl, refl, tt)
+
 -- what was reached costs what the item that it came of does, and what a left delimiter begins costs one
 abbrev Affords : ℕ → Step → Type 0
 Affords n (step.Front front.EndOfText) = ⊤
@@ -247,42 +331,50 @@ opened_costs n c k (step.Front (front.Left symbol pair)) s h =
     weaker GoesOn (Costs n) s (argument c pair k s) (λ y on. omega (arith, cost_small y, h)) (argument_free c pair k s)
 opened_costs n c k x s h = (refl, refl, tt)
 
-opening_costs : (n : ℕ) (x : Step) (c : Call) (rs : List Request) (m : Need) (s : Expansion) → Affords n x → IsFree (Costs n) s (reached_by x (opening_by c rs m) s)
-opening_costs n x c rs (need.Opening k) s h =
-    free_from (Costs n) s (with_requests rs s) (opened c k x (with_requests rs s)) refl refl (opened_costs n c k x (with_requests rs s) h)
-opening_costs n x c rs m s h = (refl, refl, affords_cost n x h)
+-- where an `else` meets the end of the text it is refused, and any other front is an item
+else_branch_costs : (table : Table) (n : ℕ) (x : Step) (s : Expansion) → Affords n x → IsFree (Costs n) s (else_branch table (front_of x) s)
+else_branch_costs table n (step.Front front.EndOfText) s h = (refl, refl, tt)
+else_branch_costs table n x s h =
+    weaker IsMore (Costs n) s (else_branch table (front_of x) s) (λ y more. omega (arith, cost_small y, h)) (else_branch_free table (front_of x) s)
 
-reached_by_costs : (n : ℕ) (x : Step) (rs : List Request) (s : Expansion) → Affords n x → IsFree (Costs n) s (reached_by x (opening rs) s)
-reached_by_costs n x [] s h = (refl, refl, affords_cost n x h)
-reached_by_costs n x (r ∷ rs) s h = opening_costs n x r.call rs r.need s h
+opened_by_costs : (table : Table) (n : ℕ) (x : Step) (o : Opener) (s : Expansion) → Affords n x → IsFree (Costs n) s (opened_by table x o s)
+opened_by_costs table n x (opener.Argument c k) s h = opened_costs n c k x s h
+opened_by_costs table n x opener.Branch s h = else_branch_costs table n x s h
 
-reached_costs : (n : ℕ) (x : Step) (s : Expansion) → Affords n x → IsFree (Costs n) s (reached x s)
-reached_costs n x s h = reached_by_costs n x s.requests s h
+reached_by_costs : (table : Table) (n : ℕ) (x : Step) (newest : NewestAs Opener) (s : Expansion) → Affords n x → IsFree (Costs n) s (reached_by table x newest s)
+reached_by_costs table n x (Some (o, rs)) s h =
+    let t : Expansion = with_requests rs s in
+    free_from (Costs n) s t (opened_by table x o t) refl refl (opened_by_costs table n x o t h)
+reached_by_costs table n x None s h = (refl, refl, affords_cost n x h)
 
-macro_costs : (symbol : ℕ) (m : Macro) (l : Level) (s : Expansion) → IsFree (Costs 1) s (macro_by symbol m l s)
-macro_costs symbol m level.Plain s = weaker GoesOn (Costs 1) s (call m [] s) on_costs (call_free m [] s)
-macro_costs symbol m other s = reached_costs 1 (step.Front (front.Operator symbol)) s (omega arith)
+reached_costs : (table : Table) (n : ℕ) (x : Step) (s : Expansion) → Affords n x → IsFree (Costs n) s (reached table x s)
+reached_costs table n x s h = reached_by_costs table n x (opening s.requests) s h
 
-word_costs : (symbol : ℕ) (w : Word) (s : Expansion) → IsFree (Costs 1) s (symbol_expanded symbol (meaning.Word w) s)
-word_costs symbol word.Backslash s = (refl, refl, omega arith)
-word_costs symbol w s = reached_costs 1 (step.Front (front.Word symbol w)) s (omega arith)
+macro_costs : (table : Table) (symbol : ℕ) (m : Macro) (l : Level) (s : Expansion) → IsFree (Costs 1) s (macro_by table symbol m l s)
+macro_costs table symbol m level.Plain s = weaker GoesOn (Costs 1) s (call m [] s) on_costs (call_free m [] s)
+macro_costs table symbol m other s = reached_costs table 1 (step.Front (front.Operator symbol)) s (omega arith)
 
-symbol_costs : (symbol : ℕ) (m : Meaning) (s : Expansion) → IsFree (Costs 1) s (symbol_expanded symbol m s)
-symbol_costs symbol (meaning.Word w) s = word_costs symbol w s
-symbol_costs symbol (meaning.Unbuilt name) s = (refl, refl, tt)
-symbol_costs symbol meaning.NewTag s = reached_costs 1 (step.Front (front.Tag symbol)) s (omega arith)
-symbol_costs symbol (meaning.Tag root) s = reached_costs 1 (step.Front (front.Tag symbol)) s (omega arith)
-symbol_costs symbol (meaning.Internal k) s = reached_costs 1 (step.Front (front.Internal symbol k)) s (omega arith)
-symbol_costs symbol (meaning.Left pair) s = reached_costs 1 (step.Front (front.Left symbol pair)) s (omega arith)
-symbol_costs symbol (meaning.Right pair) s = reached_costs 1 (step.Front (front.Right symbol pair)) s (omega arith)
-symbol_costs symbol (meaning.Macro m) s = macro_costs symbol m m.level s
+word_costs : (table : Table) (symbol : ℕ) (w : Word) (s : Expansion) → IsFree (Costs 1) s (word_expanded table symbol w s)
+word_costs table symbol word.Backslash s = (refl, refl, omega arith)
+word_costs table symbol (word.Condition w) s = met_costs w s.conditions s
+word_costs table symbol w s = reached_costs table 1 (step.Front (front.Word symbol w)) s (omega arith)
+
+symbol_costs : (table : Table) (symbol : ℕ) (m : Meaning) (s : Expansion) → IsFree (Costs 1) s (symbol_expanded table symbol m s)
+symbol_costs table symbol (meaning.Word w) s = word_costs table symbol w s
+symbol_costs table symbol (meaning.Unbuilt name) s = (refl, refl, tt)
+symbol_costs table symbol meaning.NewTag s = reached_costs table 1 (step.Front (front.Tag symbol)) s (omega arith)
+symbol_costs table symbol (meaning.Tag root) s = reached_costs table 1 (step.Front (front.Tag symbol)) s (omega arith)
+symbol_costs table symbol (meaning.Internal k) s = reached_costs table 1 (step.Front (front.Internal symbol k)) s (omega arith)
+symbol_costs table symbol (meaning.Left pair) s = reached_costs table 1 (step.Front (front.Left symbol pair)) s (omega arith)
+symbol_costs table symbol (meaning.Right pair) s = reached_costs table 1 (step.Front (front.Right symbol pair)) s (omega arith)
+symbol_costs table symbol (meaning.Macro m) s = macro_costs table symbol m m.level s
 
 item_costs : (table : Table) (x : Item) (s : Expansion) → IsFree (Costs 1) s (item_expanded table x s)
-item_costs table (item.Symbol symbol) s = symbol_costs symbol (meaning_of table symbol) s
-item_costs table (item.Number n) s = reached_costs 1 (step.Front (front.Number n)) s (omega arith)
-item_costs table (item.Text bytes) s = reached_costs 1 (step.Text bytes) s (omega arith)
+item_costs table (item.Symbol symbol) s = symbol_costs table symbol (meaning_of table symbol) s
+item_costs table (item.Number n) s = reached_costs table 1 (step.Front (front.Number n)) s (omega arith)
+item_costs table (item.Text bytes) s = reached_costs table 1 (step.Text bytes) s (omega arith)
 item_costs table (item.Bad cause) s = (refl, refl, tt)
-item_costs table (item.Capsule v) s = reached_costs 1 (step.Capsule v) s (omega arith)
+item_costs table (item.Capsule v) s = reached_costs table 1 (step.Capsule v) s (omega arith)
 item_costs table (item.Param n) s = (refl, refl, omega arith)
 item_costs table (item.LineEnd place) s = (refl, refl, omega arith)
 item_costs table item.FileEnd s = (refl, refl, omega arith)
@@ -291,18 +383,17 @@ item_costs table item.EndOfText s = (refl, refl, omega arith)
 expanded_costs : (table : Table) (x : Option Pending) (s : Expansion) → IsFree (Costs (cost_of_first x)) s (expanded table x s)
 expanded_costs table (Some (pending.Item x)) s = item_costs table x s
 expanded_costs table (Some (pending.Turn turn)) s = (refl, refl, omega arith)
-expanded_costs table None s = reached_costs 0 (step.Front front.EndOfText) s tt
+expanded_costs table None s = reached_costs table 0 (step.Front front.EndOfText) s tt
 
-reading_costs : (table : Table) (x : Option Pending) (c : Call) (rs : List Request) (n : Need) (s : Expansion)
-    → IsFree (Costs (cost_of_first x)) s (taken_by table x (reading_by c rs n) s)
-reading_costs table x c rs (need.Text u depth) s =
-    free_from (Costs (cost_of_first x)) s (with_requests rs s) (taken_in_text table c u depth x (with_requests rs s)) refl refl
-    (taken_in_text_costs table c u depth x (with_requests rs s))
-reading_costs table x c rs n s = expanded_costs table x s
+read_costs : (table : Table) (x : Option Pending) (r : Reader) (s : Expansion) → IsFree (Costs (cost_of_first x)) s (read_by table x r s)
+read_costs table x (reader.Text c u depth) s = taken_in_text_costs table c u depth x s
+read_costs table x (reader.Skip k depth) s = skipped_costs table k depth x s
 
-taken_costs : (table : Table) (x : Option Pending) (rs : List Request) (s : Expansion) → IsFree (Costs (cost_of_first x)) s (taken_by table x (reading rs) s)
-taken_costs table x [] s = expanded_costs table x s
-taken_costs table x (r ∷ rs) s = reading_costs table x r.call rs r.need s
+taken_costs : (table : Table) (x : Option Pending) (newest : NewestAs Reader) (s : Expansion) → IsFree (Costs (cost_of_first x)) s (taken_by table x newest s)
+taken_costs table x (Some (r, rs)) s =
+    let t : Expansion = with_requests rs s in
+    free_from (Costs (cost_of_first x)) s t (read_by table x r t) refl refl (read_costs table x r t)
+taken_costs table x None s = expanded_costs table x s
 
 -- THE NEXT ITEM
 
@@ -337,7 +428,7 @@ pays_then s (Err e) f took free = took
 
 advance_pays : (table : Table) (s : Expansion) → Pays cost s (advance table s)
 unfolding advance
-advance_pays table s = pays_then s (take_first s) _ (take_first_took s) (λ x t. taken_costs table x t.requests t)
+advance_pays table s = pays_then s (take_first s) _ (take_first_took s) (λ x t. taken_costs table x (reading t.requests) t)
 
 pub counted : StepsAreCounted
 counted = record {

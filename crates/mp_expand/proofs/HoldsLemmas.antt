@@ -21,15 +21,18 @@ use Rattle.mp_values.specs.declared.meaning.Meaning.{Meaning}
 use Rattle.mp_values.specs.declared.meaning.Meaning.TheVariants as meaning
 use Rattle.mp_values.specs.declared.turn.Pending.{Pending}
 use Rattle.mp_values.specs.declared.turn.Pending.TheVariants as pending
+use Rattle.mp_values.specs.declared.word.Condition.{Condition}
+use Rattle.mp_values.specs.declared.word.Condition.TheVariants as condition
 use Rattle.mp_values.specs.declared.word.Word.{Word}
 use Rattle.mp_values.specs.declared.word.Word.TheVariants as word
 use Rattle.mp_input.specs.Lines.{items_pending, last_after}
-use Rattle.mp_expand.specs.Expansion.{Expansion, Rule, IsRest, IsLeft, with_requests, reading, reading_by, opening, opening_by, waiting, waiting_by}
+use Rattle.mp_expand.specs.Expansion.{Expansion, Rule, IsRest, IsLeft, NewestAs, with_requests, reading, opening, asking}
 use Rattle.mp_expand.specs.Steps.{take_first, take_from, enter, put_back, start}
 use Rattle.mp_expand.specs.Fronts.{Table, meaning_of}
-use Rattle.mp_expand.specs.Calls.{are_pair, argument_next, parameter_next, with_request, opens, ask, ask_last, argument, with_argument, whole, go_on, go_on_by, call}
+use Rattle.mp_expand.specs.Calls.{are_pair, argument_next, parameter_next, with_request, opens, ask_for, ask, ask_last, argument, with_argument, whole, go_on, go_on_by, call}
 use Rattle.mp_expand.specs.Texts.{mark_of, with_item, text_ends, symbol_in_text, item_in_text, taken_in_text}
-use Rattle.mp_expand.specs.Advance.{opened, reached, reached_by, macro_by, symbol_expanded, item_expanded, expanded, taken_by, advance, comma_by, unclosed, right_by, delimited, of_by, behind, items_of, answered, answered_by}
+use Rattle.mp_expand.specs.Conditions.{with_conditions, pass, colon, branch_by, branch, else_branch, met_in, condition_in, condition_skipped, symbol_skipped, item_skipped, skipped}
+use Rattle.mp_expand.specs.Advance.{opened, front_of, opened_by, reached, reached_by, macro_by, word_expanded, symbol_expanded, item_expanded, expanded, read_by, taken_by, advance, comma_by, unclosed, right_by, delimited, of_by, behind, items_of, is_true, answered, answered_to, answered_by}
 use Rattle.mp_expand.specs.Holds.{HoldsPending, HoldsFirst, HoldsPair, HoldsBehind, HoldsUntil, HoldsNeed, HoldsCall, HoldsRequest, Holds, HoldsMeaning, HoldsTable, HoldsStep, HoldsAfter}
 use Rattle.mp_expand.specs.Laws.{InventsNothingOf}
 use Rattle.mp_expand.specs.declared.front.Front.{Front}
@@ -40,9 +43,20 @@ use Rattle.mp_expand.specs.declared.request.Behind.TheVariants as behind_it
 use Rattle.mp_expand.specs.declared.request.Call.{Call}
 use Rattle.mp_expand.specs.declared.request.Delimited.{Delimited}
 use Rattle.mp_expand.specs.declared.request.Delimited.TheVariants as between
+use Rattle.mp_expand.specs.declared.request.Asker.{Asker}
+use Rattle.mp_expand.specs.declared.request.Asker.TheVariants as asker
+use Rattle.mp_expand.specs.declared.request.Branch.{Branch}
+use Rattle.mp_expand.specs.declared.request.Branch.TheVariants as branch_of
 use Rattle.mp_expand.specs.declared.request.Need.{Need}
 use Rattle.mp_expand.specs.declared.request.Need.TheVariants as need
+use Rattle.mp_expand.specs.declared.request.Opener.{Opener}
+use Rattle.mp_expand.specs.declared.request.Opener.TheVariants as opener
+use Rattle.mp_expand.specs.declared.request.Reader.{Reader}
+use Rattle.mp_expand.specs.declared.request.Reader.TheVariants as reader
 use Rattle.mp_expand.specs.declared.request.Request.{Request}
+use Rattle.mp_expand.specs.declared.request.Request.TheVariants as request
+use Rattle.mp_expand.specs.declared.request.Skip.{Skip}
+use Rattle.mp_expand.specs.declared.request.Skip.TheVariants as skip
 use Rattle.mp_expand.specs.declared.request.Until.{Until}
 use Rattle.mp_expand.specs.declared.request.Until.TheVariants as until
 use Rattle.mp_expand.specs.declared.step.Answer.{Answer}
@@ -89,9 +103,11 @@ module _ (P : Item → Type 0) (N : ℕ → Type 0) where
 
   -- CALLS
 
-  with_request_holds : (c : Call) (n : Need) (s : Expansion) → HoldsCall P N c → HoldsNeed P N n → Holds P N s → Holds P N (with_request c n s)
-  with_request_holds c n s hc hn hs =
-      record { text = hs.text; requests = All-cons (HoldsRequest P N) (record { call = c; need = n }) s.requests (record { call = hc; need = hn }) hs.requests }
+  waits : (r : Request) (s : Expansion) → HoldsRequest P N r → Holds P N s → Holds P N (with_request r s)
+  waits r s hr hs = record { text = hs.text; requests = All-cons (HoldsRequest P N) r s.requests hr hs.requests }
+
+  with_request_holds : (c : Call) (n : Need) (s : Expansion) → HoldsCall P N c → HoldsNeed P N n → Holds P N s → Holds P N (with_request (request.Call c n) s)
+  with_request_holds c n s hc hn hs = waits (request.Call c n) s (hc, hn) hs
 
   with_argument_holds : (items : List Item) (c : Call) → All P items → HoldsCall P N c → HoldsCall P N (with_argument items c)
   with_argument_holds items c hi hc = record { body = hc.body; got = All-push (All P) c.got items hc.got hi; text = All-nil P }
@@ -109,9 +125,12 @@ module _ (P : Item → Type 0) (N : ℕ → Type 0) where
   unfolding enter
   enter_holds s hs = entered_by (nat_lt s.nesting NESTING_LIMIT) s hs
 
+  ask_for_holds : (r : Request) (w : Want) (s : Expansion) → HoldsRequest P N r → Holds P N s → Gives (ask_for r w s)
+  ask_for_holds r w s hr hs =
+      one_after_another (λ entered. ⊤) (HoldsStep P N) (enter s) _ (enter_holds s hs) (λ entered t q ht. (tt, waits r t hr ht))
+
   ask_holds : (c : Call) (b : Behind) (w : Want) (s : Expansion) → HoldsBehind P N b → HoldsCall P N c → Holds P N s → Gives (ask c b w s)
-  ask_holds c b w s hb hc hs =
-      one_after_another (λ entered. ⊤) (HoldsStep P N) (enter s) _ (enter_holds s hs) (λ entered t q ht. (tt, with_request_holds c (need.Answer b) t hc hb ht))
+  ask_holds c b w s hb hc hs = ask_for_holds (request.Call c (need.Answer b)) w s (hc, hb) hs
 
   last_holds : (c : Call) (o : Operand) (s : Expansion) → HoldsCall P N c → Holds P N s → Gives (ask_last c o s)
   last_holds c o s hc hs = ask_holds c behind_it.Anything (want.Last o) s tt hc hs
@@ -184,7 +203,109 @@ module _ (P : Item → Type 0) (N : ℕ → Type 0) where
   taken_in_text_holds table c u depth (Some (pending.Turn turn)) s hu hx hc hs = (tt, with_request_holds c (need.Text u depth) s hc hu hs)
   taken_in_text_holds table c u depth None s hu hx hc hs = hs
 
-  -- WHAT NO CALL READS
+  -- CONDITIONS
+
+  pass_holds : (k : Skip) (depth : ℕ) (s : Expansion) → Holds P N s → Gives (pass k depth s)
+  pass_holds k depth s hs = (tt, waits (request.Skip k depth) s tt hs)
+
+  branches_hold : (bs : List Branch) (s : Expansion) → Holds P N s → Holds P N (with_conditions bs s)
+  branches_hold bs s hs = record { text = hs.text; requests = hs.requests }
+
+  colon_word_holds : (table : Table) (symbol : ℕ) (w : Word) (s : Expansion) → Holds P N s → Does (colon table (front.Word symbol w) s)
+  colon_word_holds table symbol word.Colon s hs = (tt, hs)
+  colon_word_holds table symbol w s hs = hs
+
+  colon_holds : (table : Table) (x : Front) (s : Expansion) → Holds P N s → Does (colon table x s)
+  colon_holds table (front.Word symbol w) s hs = colon_word_holds table symbol w s hs
+  colon_holds table x s hs = hs
+
+  branch_by_holds : (truth : Bool) (s : Expansion) → Holds P N s → Gives (branch_by truth s)
+  branch_by_holds true s hs = (tt, branches_hold (branch_of.BeforeElse ∷ s.conditions) s hs)
+  branch_by_holds false s hs = pass_holds skip.ToBranch 0 s hs
+
+  branch_holds : (table : Table) (truth : Bool) (x : Front) (s : Expansion) → Holds P N s → Gives (branch table truth x s)
+  branch_holds table truth x s hs =
+      one_after_another (λ stands. ⊤) (HoldsStep P N) (colon table x s) _ (colon_holds table x s hs) (λ stands t q ht. branch_by_holds truth t ht)
+
+  else_branch_holds : (table : Table) (x : Front) (s : Expansion) → Holds P N s → Gives (else_branch table x s)
+  else_branch_holds table x s hs =
+      one_after_another (λ stands. ⊤) (HoldsStep P N) (colon table x s) _ (colon_holds table x s hs)
+      (λ stands t q ht. (tt, branches_hold (branch_of.BehindElse ∷ t.conditions) t ht))
+
+  truth_holds : (w : Condition) (s : Expansion) → Holds P N s → Gives (ask_for (request.Truth w) (want.Followed (operand.Condition w)) s)
+  truth_holds w s hs = ask_for_holds (request.Truth w) (want.Followed (operand.Condition w)) s tt hs
+
+  met_holds : (w : Condition) (bs : List Branch) (s : Expansion) → Holds P N s → Gives (met_in w bs s)
+  met_holds condition.If bs s hs = truth_holds condition.If s hs
+  met_holds condition.Fi (b ∷ bs) s hs = (tt, branches_hold bs s hs)
+  met_holds w (branch_of.BeforeElse ∷ bs) s hs = pass_holds skip.ToEnd 0 (with_conditions bs s) (branches_hold bs s hs)
+  met_holds w bs s hs = hs
+
+  condition_skipped_holds : (k : Skip) (depth : ℕ) (w : Condition) (s : Expansion) → Holds P N s → Gives (condition_skipped k depth w s)
+  condition_skipped_holds k depth condition.If s hs = pass_holds k (suc depth) s hs
+  condition_skipped_holds k (suc depth) condition.Fi s hs = pass_holds k depth s hs
+  condition_skipped_holds k zero condition.Fi s hs = (tt, hs)
+  condition_skipped_holds skip.ToBranch zero condition.Elseif s hs = truth_holds condition.Elseif s hs
+  condition_skipped_holds skip.ToBranch zero condition.Else s hs = (tt, waits request.Colon s tt hs)
+  condition_skipped_holds k depth w s hs = pass_holds k depth s hs
+
+  symbol_skipped_holds : (k : Skip) (depth : ℕ) (w : Option Condition) (s : Expansion) → Holds P N s → Gives (symbol_skipped k depth w s)
+  symbol_skipped_holds k depth (Some w) s hs = condition_skipped_holds k depth w s hs
+  symbol_skipped_holds k depth None s hs = pass_holds k depth s hs
+
+  item_skipped_holds : (table : Table) (k : Skip) (depth : ℕ) (x : Item) (s : Expansion) → Holds P N s → Gives (item_skipped table k depth x s)
+  item_skipped_holds table k depth (item.Symbol symbol) s hs = symbol_skipped_holds k depth (condition_in (meaning_of table symbol)) s hs
+  item_skipped_holds table k depth item.FileEnd s hs = hs
+  item_skipped_holds table k depth item.EndOfText s hs = hs
+  item_skipped_holds table k depth (item.Bad cause) s hs = hs
+  item_skipped_holds table k depth x s hs = pass_holds k depth s hs
+
+  skipped_holds : (table : Table) (k : Skip) (depth : ℕ) (x : Option Pending) (s : Expansion) → Holds P N s → Gives (skipped table k depth x s)
+  skipped_holds table k depth (Some (pending.Item x)) s hs = item_skipped_holds table k depth x s hs
+  skipped_holds table k depth (Some (pending.Turn turn)) s hs = pass_holds k depth s hs
+  skipped_holds table k depth None s hs = hs
+
+  -- THE NEWEST REQUEST
+
+  -- what it is made of, and the others
+  abbrev HoldsNewest : {A : Type 0} → (A → Type 0) → NewestAs A → Type 0
+  HoldsNewest Q (Some x) = Q x.0 × All (HoldsRequest P N) x.1
+  HoldsNewest Q None = ⊤
+
+  abbrev HoldsReader : Reader → Type 0
+  HoldsReader (reader.Text c u depth) = HoldsCall P N c × HoldsUntil P N u
+  HoldsReader (reader.Skip k depth) = ⊤
+
+  abbrev HoldsOpener : Opener → Type 0
+  HoldsOpener (opener.Argument c k) = HoldsCall P N c
+  HoldsOpener opener.Branch = ⊤
+
+  abbrev HoldsAsker : Asker → Type 0
+  HoldsAsker (asker.Argument c b) = HoldsCall P N c × HoldsBehind P N b
+  HoldsAsker asker.Branch = ⊤
+
+  reading_holds : (rs : List Request) → All (HoldsRequest P N) rs → HoldsNewest HoldsReader (reading rs)
+  reading_holds (request.Call c (need.Text u depth) ∷ rs) h =
+      let hr : HoldsRequest P N (request.Call c (need.Text u depth)) = All-head (HoldsRequest P N) (request.Call c (need.Text u depth)) rs h in
+      (hr, All-tail (HoldsRequest P N) (request.Call c (need.Text u depth)) rs h)
+  reading_holds (request.Skip k depth ∷ rs) h = (tt, All-tail (HoldsRequest P N) (request.Skip k depth) rs h)
+  reading_holds rs h = tt
+
+  opening_holds : (rs : List Request) → All (HoldsRequest P N) rs → HoldsNewest HoldsOpener (opening rs)
+  opening_holds (request.Call c (need.Opening k) ∷ rs) h =
+      let hr : HoldsRequest P N (request.Call c (need.Opening k)) = All-head (HoldsRequest P N) (request.Call c (need.Opening k)) rs h in
+      (hr.0, All-tail (HoldsRequest P N) (request.Call c (need.Opening k)) rs h)
+  opening_holds (request.Colon ∷ rs) h = (tt, All-tail (HoldsRequest P N) request.Colon rs h)
+  opening_holds rs h = tt
+
+  asking_holds : (rs : List Request) → All (HoldsRequest P N) rs → HoldsNewest HoldsAsker (asking rs)
+  asking_holds (request.Call c (need.Answer b) ∷ rs) h =
+      let hr : HoldsRequest P N (request.Call c (need.Answer b)) = All-head (HoldsRequest P N) (request.Call c (need.Answer b)) rs h in
+      (hr, All-tail (HoldsRequest P N) (request.Call c (need.Answer b)) rs h)
+  asking_holds (request.Truth w ∷ rs) h = (tt, All-tail (HoldsRequest P N) (request.Truth w) rs h)
+  asking_holds rs h = tt
+
+  -- WHAT NOTHING TAKES AS IT STANDS
 
   opened_holds : (c : Call) (k : Delimited) (x : Step) (s : Expansion) → HoldsStep P N x → HoldsCall P N c → Holds P N s → Gives (opened c k x s)
   opened_holds c k (step.Front (front.Left symbol pair)) s hx hc hs = next_argument_holds c pair k s hx.1 hc hs
@@ -193,37 +314,36 @@ module _ (P : Item → Type 0) (N : ℕ → Type 0) where
   others_hold : (rs : List Request) (s : Expansion) → All (HoldsRequest P N) rs → Holds P N s → Holds P N (with_requests rs s)
   others_hold rs s h hs = record { text = hs.text; requests = h }
 
-  opening_holds : (x : Step) (c : Call) (rs : List Request) (n : Need) (s : Expansion) → HoldsStep P N x → HoldsCall P N c → All (HoldsRequest P N) rs → Holds P N s
-      → Gives (reached_by x (opening_by c rs n) s)
-  opening_holds x c rs (need.Opening k) s hx hc h hs = opened_holds c k x (with_requests rs s) hx hc (others_hold rs s h hs)
-  opening_holds x c rs n s hx hc h hs = (hx, hs)
+  opened_by_holds : (table : Table) (x : Step) (o : Opener) (s : Expansion) → HoldsStep P N x → HoldsOpener o → Holds P N s → Gives (opened_by table x o s)
+  opened_by_holds table x (opener.Argument c k) s hx ho hs = opened_holds c k x s hx ho hs
+  opened_by_holds table x opener.Branch s hx ho hs = else_branch_holds table (front_of x) s hs
 
-  reached_by_holds : (x : Step) (rs : List Request) (s : Expansion) → HoldsStep P N x → All (HoldsRequest P N) rs → Holds P N s → Gives (reached_by x (opening rs) s)
-  reached_by_holds x [] s hx h hs = (hx, hs)
-  reached_by_holds x (r ∷ rs) s hx h hs =
-      let hr : HoldsRequest P N r = All-head (HoldsRequest P N) r rs h in
-      opening_holds x r.call rs r.need s hx hr.call (All-tail (HoldsRequest P N) r rs h) hs
+  reached_by_holds : (table : Table) (x : Step) (newest : NewestAs Opener) (s : Expansion) → HoldsStep P N x → HoldsNewest HoldsOpener newest → Holds P N s
+      → Gives (reached_by table x newest s)
+  reached_by_holds table x (Some (o, rs)) s hx h hs = opened_by_holds table x o (with_requests rs s) hx h.0 (others_hold rs s h.1 hs)
+  reached_by_holds table x None s hx h hs = (hx, hs)
 
-  reached_holds : (x : Step) (s : Expansion) → HoldsStep P N x → Holds P N s → Gives (reached x s)
-  reached_holds x s hx hs = reached_by_holds x s.requests s hx hs.requests hs
+  reached_holds : (table : Table) (x : Step) (s : Expansion) → HoldsStep P N x → Holds P N s → Gives (reached table x s)
+  reached_holds table x s hx hs = reached_by_holds table x (opening s.requests) s hx (opening_holds s.requests hs.requests) hs
 
-  macro_holds : (symbol : ℕ) (m : Macro) (l : Level) (s : Expansion) → P (item.Symbol symbol) → All P m.body → Holds P N s → Gives (macro_by symbol m l s)
-  macro_holds symbol m level.Plain s hx hm hs = call_holds m [] s hm (All-nil (All P)) hs
-  macro_holds symbol m other s hx hm hs = reached_holds (step.Front (front.Operator symbol)) s hx hs
+  macro_holds : (table : Table) (symbol : ℕ) (m : Macro) (l : Level) (s : Expansion) → P (item.Symbol symbol) → All P m.body → Holds P N s → Gives (macro_by table symbol m l s)
+  macro_holds table symbol m level.Plain s hx hm hs = call_holds m [] s hm (All-nil (All P)) hs
+  macro_holds table symbol m other s hx hm hs = reached_holds table (step.Front (front.Operator symbol)) s hx hs
 
-  word_holds : (symbol : ℕ) (w : Word) (s : Expansion) → P (item.Symbol symbol) → Holds P N s → Gives (symbol_expanded symbol (meaning.Word w) s)
-  word_holds symbol word.Backslash s hx hs = (tt, hs)
-  word_holds symbol w s hx hs = reached_holds (step.Front (front.Word symbol w)) s hx hs
+  word_holds : (table : Table) (symbol : ℕ) (w : Word) (s : Expansion) → P (item.Symbol symbol) → Holds P N s → Gives (word_expanded table symbol w s)
+  word_holds table symbol word.Backslash s hx hs = (tt, hs)
+  word_holds table symbol (word.Condition w) s hx hs = met_holds w s.conditions s hs
+  word_holds table symbol w s hx hs = reached_holds table (step.Front (front.Word symbol w)) s hx hs
 
-  symbol_holds : (symbol : ℕ) (m : Meaning) (s : Expansion) → P (item.Symbol symbol) → HoldsMeaning P N m → Holds P N s → Gives (symbol_expanded symbol m s)
-  symbol_holds symbol (meaning.Word w) s hx hm hs = word_holds symbol w s hx hs
-  symbol_holds symbol (meaning.Unbuilt name) s hx hm hs = hs
-  symbol_holds symbol meaning.NewTag s hx hm hs = reached_holds (step.Front (front.Tag symbol)) s hx hs
-  symbol_holds symbol (meaning.Tag root) s hx hm hs = reached_holds (step.Front (front.Tag symbol)) s hx hs
-  symbol_holds symbol (meaning.Internal k) s hx hm hs = reached_holds (step.Front (front.Internal symbol k)) s (hx, hm) hs
-  symbol_holds symbol (meaning.Left pair) s hx hm hs = reached_holds (step.Front (front.Left symbol pair)) s (hx, hm) hs
-  symbol_holds symbol (meaning.Right pair) s hx hm hs = reached_holds (step.Front (front.Right symbol pair)) s (hx, hm) hs
-  symbol_holds symbol (meaning.Macro m) s hx hm hs = macro_holds symbol m m.level s hx hm hs
+  symbol_holds : (table : Table) (symbol : ℕ) (m : Meaning) (s : Expansion) → P (item.Symbol symbol) → HoldsMeaning P N m → Holds P N s → Gives (symbol_expanded table symbol m s)
+  symbol_holds table symbol (meaning.Word w) s hx hm hs = word_holds table symbol w s hx hs
+  symbol_holds table symbol (meaning.Unbuilt name) s hx hm hs = hs
+  symbol_holds table symbol meaning.NewTag s hx hm hs = reached_holds table (step.Front (front.Tag symbol)) s hx hs
+  symbol_holds table symbol (meaning.Tag root) s hx hm hs = reached_holds table (step.Front (front.Tag symbol)) s hx hs
+  symbol_holds table symbol (meaning.Internal k) s hx hm hs = reached_holds table (step.Front (front.Internal symbol k)) s (hx, hm) hs
+  symbol_holds table symbol (meaning.Left pair) s hx hm hs = reached_holds table (step.Front (front.Left symbol pair)) s (hx, hm) hs
+  symbol_holds table symbol (meaning.Right pair) s hx hm hs = reached_holds table (step.Front (front.Right symbol pair)) s (hx, hm) hs
+  symbol_holds table symbol (meaning.Macro m) s hx hm hs = macro_holds table symbol m m.level s hx hm hs
 
   meaning_holds : (table : Table) (symbol : ℕ) → HoldsTable P N table → HoldsMeaning P N (meaning_of table symbol)
   meaning_holds [] symbol h = tt
@@ -231,11 +351,11 @@ module _ (P : Item → Type 0) (N : ℕ → Type 0) where
   meaning_holds (entry ∷ more) (suc symbol) h = meaning_holds more symbol (All-tail (λ entry. HoldsMeaning P N entry.1) entry more h)
 
   item_holds : (table : Table) (x : Item) (s : Expansion) → HoldsTable P N table → P x → Holds P N s → Gives (item_expanded table x s)
-  item_holds table (item.Symbol symbol) s h hx hs = symbol_holds symbol (meaning_of table symbol) s hx (meaning_holds table symbol h) hs
-  item_holds table (item.Number n) s h hx hs = reached_holds (step.Front (front.Number n)) s tt hs
-  item_holds table (item.Text bytes) s h hx hs = reached_holds (step.Text bytes) s tt hs
+  item_holds table (item.Symbol symbol) s h hx hs = symbol_holds table symbol (meaning_of table symbol) s hx (meaning_holds table symbol h) hs
+  item_holds table (item.Number n) s h hx hs = reached_holds table (step.Front (front.Number n)) s tt hs
+  item_holds table (item.Text bytes) s h hx hs = reached_holds table (step.Text bytes) s tt hs
   item_holds table (item.Bad cause) s h hx hs = hs
-  item_holds table (item.Capsule v) s h hx hs = reached_holds (step.Capsule v) s hx hs
+  item_holds table (item.Capsule v) s h hx hs = reached_holds table (step.Capsule v) s hx hs
   item_holds table (item.Param n) s h hx hs = (tt, hs)
   item_holds table (item.LineEnd place) s h hx hs = (tt, hs)
   item_holds table item.FileEnd s h hx hs = (tt, hs)
@@ -244,21 +364,18 @@ module _ (P : Item → Type 0) (N : ℕ → Type 0) where
   expanded_holds : (table : Table) (x : Option Pending) (s : Expansion) → HoldsTable P N table → HoldsFirst P N x → Holds P N s → Gives (expanded table x s)
   expanded_holds table (Some (pending.Item x)) s h hx hs = item_holds table x s h hx hs
   expanded_holds table (Some (pending.Turn turn)) s h hx hs = (tt, hs)
-  expanded_holds table None s h hx hs = reached_holds (step.Front front.EndOfText) s tt hs
+  expanded_holds table None s h hx hs = reached_holds table (step.Front front.EndOfText) s tt hs
 
   -- THE NEXT ITEM
 
-  reading_holds : (table : Table) (x : Option Pending) (c : Call) (rs : List Request) (n : Need) (s : Expansion) → HoldsTable P N table → HoldsFirst P N x → HoldsNeed P N n
-      → HoldsCall P N c → All (HoldsRequest P N) rs → Holds P N s → Gives (taken_by table x (reading_by c rs n) s)
-  reading_holds table x c rs (need.Text u depth) s h hx hn hc hrs hs = taken_in_text_holds table c u depth x (with_requests rs s) hn hx hc (others_hold rs s hrs hs)
-  reading_holds table x c rs n s h hx hn hc hrs hs = expanded_holds table x s h hx hs
+  read_holds : (table : Table) (x : Option Pending) (r : Reader) (s : Expansion) → HoldsFirst P N x → HoldsReader r → Holds P N s → Gives (read_by table x r s)
+  read_holds table x (reader.Text c u depth) s hx hr hs = taken_in_text_holds table c u depth x s hr.1 hx hr.0 hs
+  read_holds table x (reader.Skip k depth) s hx hr hs = skipped_holds table k depth x s hs
 
-  taken_holds : (table : Table) (x : Option Pending) (rs : List Request) (s : Expansion) → HoldsTable P N table → HoldsFirst P N x → All (HoldsRequest P N) rs → Holds P N s
-      → Gives (taken_by table x (reading rs) s)
-  taken_holds table x [] s h hx hrs hs = expanded_holds table x s h hx hs
-  taken_holds table x (r ∷ rs) s h hx hrs hs =
-      let hr : HoldsRequest P N r = All-head (HoldsRequest P N) r rs hrs in
-      reading_holds table x r.call rs r.need s h hx hr.need hr.call (All-tail (HoldsRequest P N) r rs hrs) hs
+  taken_holds : (table : Table) (x : Option Pending) (newest : NewestAs Reader) (s : Expansion) → HoldsTable P N table → HoldsFirst P N x → HoldsNewest HoldsReader newest
+      → Holds P N s → Gives (taken_by table x newest s)
+  taken_holds table x (Some (r, rs)) s h hx hn hs = read_holds table x r (with_requests rs s) hx hn.0 (others_hold rs s hn.1 hs)
+  taken_holds table x None s h hx hn hs = expanded_holds table x s h hx hs
 
   first_by : (b : Bool) (x : Pending) (text : List Pending) (s : Expansion) → All (HoldsPending P N) (x ∷ text) → Holds P N s
       → HoldsAfter P N (HoldsFirst P N) (if b then Ok (Some x, record s { text = text; last = last_after x s.last; steps = s.steps + 1 }) else Err (OutOfSteps, s))
@@ -276,7 +393,7 @@ module _ (P : Item → Type 0) (N : ℕ → Type 0) where
   advance_holds : (table : Table) (s : Expansion) → HoldsTable P N table → Holds P N s → Gives (advance table s)
   unfolding advance
   advance_holds table s h hs =
-      one_after_another (HoldsFirst P N) (HoldsStep P N) (take_first s) _ (take_first_holds s hs) (λ x t hx ht. taken_holds table x t.requests t h hx ht.requests ht)
+      one_after_another (HoldsFirst P N) (HoldsStep P N) (take_first s) _ (take_first_holds s hs) (λ x t hx ht. taken_holds table x (reading t.requests) t h hx (reading_holds t.requests ht.requests) ht)
 
   -- AN ANSWER
 
@@ -316,23 +433,21 @@ module _ (P : Item → Type 0) (N : ℕ → Type 0) where
   behind_holds table c behind_it.Of x s hb hc hs = of_holds table c x s hc hs
   behind_holds table c behind_it.Anything x s hb hc hs = whole_holds c s hc hs
 
-  waiting_holds : (table : Table) (items : List Item) (x : Front) (c : Call) (rs : List Request) (n : Need) (s : Expansion) → All P items → HoldsNeed P N n
-      → HoldsCall P N c → All (HoldsRequest P N) rs → Holds P N s → Gives (answered_by table items x (waiting_by c rs n) s)
-  waiting_holds table items x c rs (need.Answer b) s hi hn hc hrs hs =
-      let t : Expansion = record s { nesting = s.nesting - 1; requests = rs } in
-      behind_holds table (with_argument items c) b x t hn (with_argument_holds items c hi hc) (record { text = hs.text; requests = hrs })
-  waiting_holds table items x c rs n s hi hn hc hrs hs = (tt, hs)
+  answered_to_holds : (table : Table) (a : Answer) (x : Front) (q : Asker) (s : Expansion) → All P (items_of a) → HoldsAsker q → Holds P N s
+      → Gives (answered_to table a x q s)
+  answered_to_holds table a x (asker.Argument c b) s hi hq hs = behind_holds table (with_argument (items_of a) c) b x s hq.1 (with_argument_holds (items_of a) c hi hq.0) hs
+  answered_to_holds table a x asker.Branch s hi hq hs = branch_holds table (is_true a) x s hs
 
-  answered_by_holds : (table : Table) (items : List Item) (x : Front) (rs : List Request) (s : Expansion) → All P items → All (HoldsRequest P N) rs → Holds P N s
-      → Gives (answered_by table items x (waiting rs) s)
-  answered_by_holds table items x [] s hi hrs hs = (tt, hs)
-  answered_by_holds table items x (r ∷ rs) s hi hrs hs =
-      let hr : HoldsRequest P N r = All-head (HoldsRequest P N) r rs hrs in
-      waiting_holds table items x r.call rs r.need s hi hr.need hr.call (All-tail (HoldsRequest P N) r rs hrs) hs
+  answered_by_holds : (table : Table) (a : Answer) (x : Front) (newest : NewestAs Asker) (s : Expansion) → All P (items_of a) → HoldsNewest HoldsAsker newest → Holds P N s
+      → Gives (answered_by table a x newest s)
+  answered_by_holds table a x (Some (q, rs)) s hi hn hs =
+      let t : Expansion = record s { nesting = s.nesting - 1; requests = rs } in
+      answered_to_holds table a x q t hi hn.0 (record { text = hs.text; requests = hn.1 })
+  answered_by_holds table a x None s hi hn hs = (tt, hs)
 
   answered_holds : (table : Table) (a : Answer) (x : Front) (s : Expansion) → All P (items_of a) → Holds P N s → Gives (answered table a x s)
   unfolding answered
-  answered_holds table a x s hi hs = answered_by_holds table (items_of a) x s.requests s hi hs.requests hs
+  answered_holds table a x s hi hs = answered_by_holds table a x (asking s.requests) s hi (asking_holds s.requests hs.requests) hs
 
   start_holds : (file : ℕ) (tokens : List Token) (s : Expansion) → All P (file_items file tokens) → Holds P N s → Holds P N (start file tokens s)
   start_holds file tokens s h hs = record { text = in_front (file_items file tokens) s.text h hs.text; requests = hs.requests }

@@ -17,8 +17,9 @@ use Rattle.mp_expand.specs.declared.request.Behind.TheVariants as behind
 use Rattle.mp_expand.specs.declared.request.Call.{Call}
 use Rattle.mp_expand.specs.declared.request.Delimited.{Delimited}
 use Rattle.mp_expand.specs.declared.request.Delimited.TheVariants as delimited
-use Rattle.mp_expand.specs.declared.request.Need.{Need}
 use Rattle.mp_expand.specs.declared.request.Need.TheVariants as need
+use Rattle.mp_expand.specs.declared.request.Request.{Request}
+use Rattle.mp_expand.specs.declared.request.Request.TheVariants as request
 use Rattle.mp_expand.specs.declared.request.Until.{Until}
 use Rattle.mp_expand.specs.declared.request.Until.TheVariants as until
 use Rattle.mp_expand.specs.declared.step.Operand.{Operand}
@@ -51,9 +52,9 @@ argument_next c = delimited_in (parameter_next c)
 abbrev pub with_argument : List Item → Call → Call
 with_argument items c = record c { got = c.got ++ items ∷ []; next = c.next + 1; text = [] }
 
--- a call stands before the others, and needs that
-abbrev pub with_request : Call → Need → Expansion → Expansion
-with_request c n s = record s { requests = record { call = c; need = n } ∷ s.requests }
+-- it waits before what waited
+abbrev pub with_request : Request → Expansion → Expansion
+with_request r s = record s { requests = r ∷ s.requests }
 
 -- WHAT A CALL DOES NEXT
 
@@ -69,15 +70,19 @@ whole c = do
 -- it needs a left delimiter in front of the argument
 abbrev pub opens : Call → Delimited → Rule Step
 opens c k = do
-  needs ← change (with_request c (need.Opening k))
+  needs ← change (with_request (request.Call c (need.Opening k)))
   give step.More
 
--- it waits for the answer to what it asks for
-abbrev pub ask : Call → Behind → Want → Rule Step
-ask c b w = do
+-- it waits for the answer to what is asked for
+abbrev pub ask_for : Request → Want → Rule Step
+ask_for r w = do
   entered ← enter
-  waits ← change (with_request c (need.Answer b))
+  waits ← change (with_request r)
   give (step.Want w)
+
+-- a call asks for an argument
+abbrev pub ask : Call → Behind → Want → Rule Step
+ask c b w = ask_for (request.Call c (need.Answer b)) w
 
 -- the last argument, without delimiters: what stands behind it is put back
 abbrev pub ask_last : Call → Operand → Rule Step
@@ -86,7 +91,7 @@ ask_last c o = ask c behind.Anything (want.Last o)
 -- it reads a text as it stands
 abbrev pub read_text : Call → Until → Rule Step
 read_text c u = do
-  reads ← change (with_request c (need.Text u 0))
+  reads ← change (with_request (request.Call c (need.Text u 0)))
   give step.More
 
 -- the argument behind a left delimiter or a comma

@@ -7,10 +7,15 @@ use Rattle.mp_values.specs.declared.macros.Level.{Level}
 use Rattle.mp_values.specs.declared.macros.Level.TheVariants as level
 use Rattle.mp_values.specs.declared.macros.Macro.{Macro}
 use Rattle.mp_values.specs.Words.{unary_of}
+use Rattle.mp_values.specs.declared.word.Comparison.TheVariants as comparison
+use Rattle.mp_values.specs.declared.word.Expression.{Expression}
+use Rattle.mp_values.specs.declared.word.Expression.TheVariants as expression
 use Rattle.mp_values.specs.declared.word.Secondary.{Secondary}
 use Rattle.mp_values.specs.declared.word.Tertiary.{Tertiary}
 use Rattle.mp_values.specs.declared.word.Word.{Word}
 use Rattle.mp_values.specs.declared.word.Word.TheVariants as word
+use Rattle.mp_expand.specs.declared.front.Equals.{Equals}
+use Rattle.mp_expand.specs.declared.front.Equals.TheVariants as equals
 use Rattle.mp_expand.specs.declared.front.Front.{Front}
 use Rattle.mp_expand.specs.declared.front.Front.TheVariants as front
 
@@ -37,6 +42,17 @@ abbrev pub tertiary_in : Front → Option Tertiary
 tertiary_in (front.Word symbol (word.Tertiary op)) = Some op
 tertiary_in x = None
 
+-- what `=` is between tertiaries
+abbrev pub equals_in : Equals → Option Expression
+equals_in equals.Compares = Some (expression.Compare comparison.Equal)
+equals_in equals.Ends = None
+
+-- the operator that it is there
+abbrev pub joining_in : Equals → Front → Option Expression
+joining_in e (front.Word symbol (word.Expression op)) = Some op
+joining_in e (front.Word symbol word.Equals) = equals_in e
+joining_in e x = None
+
 -- a macro of the one level joins operands at the other
 abbrev pub joins_at : Level → Level → Bool
 joins_at level.Primary level.Primary = true
@@ -60,6 +76,7 @@ is_there None = false
 abbrev pub word_begins_primary : Word → Bool
 word_begins_primary word.Begingroup = true
 word_begins_primary word.Str = true
+word_begins_primary (word.Nullary w) = true
 word_begins_primary w = is_there (unary_of w)
 
 -- the fronts that a primary can begin with

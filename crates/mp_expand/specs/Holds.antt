@@ -22,6 +22,7 @@ use Rattle.mp_expand.specs.declared.request.Call.{Call}
 use Rattle.mp_expand.specs.declared.request.Need.{Need}
 use Rattle.mp_expand.specs.declared.request.Need.TheVariants as need
 use Rattle.mp_expand.specs.declared.request.Request.{Request}
+use Rattle.mp_expand.specs.declared.request.Request.TheVariants as request
 use Rattle.mp_expand.specs.declared.request.Until.{Until}
 use Rattle.mp_expand.specs.declared.request.Until.TheVariants as until
 use Rattle.mp_expand.specs.declared.step.Step.{Step}
@@ -68,9 +69,10 @@ module _ (P : Item → Type 0) (N : ℕ → Type 0) where
     pub got : All (All P) c.got
     pub text : All P c.text
 
-  pub record HoldsRequest (r : Request) : Type 0 where
-    pub call : HoldsCall r.call
-    pub need : HoldsNeed r.need
+  -- what conditions wait for holds no items
+  abbrev pub HoldsRequest : Request → Type 0
+  HoldsRequest (request.Call c n) = HoldsCall c × HoldsNeed n
+  HoldsRequest other = ⊤
 
   pub record Holds (s : Expansion) : Type 0 where
     pub text : All HoldsPending s.text

@@ -3,6 +3,7 @@ pub mod Expansion
 pub mod Steps
 pub mod Calls
 pub mod Texts
+pub mod Conditions
 pub mod Advance
 pub mod Holds
 pub mod Laws

@@ -28,7 +28,7 @@ take_first s = take_from s.text s
 abbrev pub place_of : Expansion → Place
 place_of s = place_in s.text s.last
 
--- one more primary is read, or one more call waits for an answer; no more than so many inside one another
+-- one more primary is read, or one more request waits for an answer; no more than so many inside one another
 unfoldable pub enter : Rule (Unit {0})
 enter s =
     if nat_lt s.nesting NESTING_LIMIT

@@ -17,6 +17,7 @@ use Rattle.mp_expand.specs.Fronts.{Table, meaning_of}
 use Rattle.mp_expand.specs.Calls.{are_pair, with_argument, with_request, whole, go_on}
 use Rattle.mp_expand.specs.declared.request.Call.{Call}
 use Rattle.mp_expand.specs.declared.request.Need.TheVariants as need
+use Rattle.mp_expand.specs.declared.request.Request.TheVariants as request
 use Rattle.mp_expand.specs.declared.request.Until.{Until}
 use Rattle.mp_expand.specs.declared.request.Until.TheVariants as until
 use Rattle.mp_expand.specs.declared.step.Step.{Step}
@@ -37,7 +38,7 @@ mark_of u m = mark.Stands
 -- more is to be read, inside so many pairs
 abbrev pub passed_over : Call → Until → ℕ → Rule Step
 passed_over c u depth = do
-  reads ← change (with_request c (need.Text u depth))
+  reads ← change (with_request (request.Call c (need.Text u depth)))
   give step.More
 
 -- one more item

@@ -11,34 +11,51 @@ use crate::Front;
 use crate::calls::are_pair;
 use crate::expander::Expander;
 use crate::names::name_of;
-use crate::request::{Behind, Call};
+use crate::request::{Asker, Behind, Call};
 use crate::step::{Answer, Operand, Step};
 use mp_report::SourceError;
 use mp_scaled::{NoMemory, Shared};
 use mp_symbols::Symbols;
-use mp_values::{Delimiters, Item, Items, Meaning, Stop, Word};
+use mp_values::{Delimiters, Item, Items, Meaning, Stop, Value, Word};
 use std::alloc::Global;
+
+/// A value as a text.
+fn capsule(alloc: Global, value: Shared<Value>) -> Result<Shared<Items>, NoMemory>
+    ensures { IfOk result (λ items. items ≡ advance.capsule value) }
+{
+    let mut items = Items::new(alloc);
+    items.push(Item::Capsule(value))?;
+    Shared::new(alloc, items)
+}
 
 /// What stands in the text for an answer.
 fn items_of(alloc: Global, answer: Answer) -> Result<Shared<Items>, NoMemory>
     ensures { IfOk result (λ items. items ≡ advance.items_of answer) }
 {
     match answer {
-        Answer::Value(value) => {
-            let mut items = Items::new(alloc);
-            items.push(Item::Capsule(value))?;
-            Shared::new(alloc, items)
-        }
+        Answer::Value(value) => capsule(alloc, value),
         Answer::Suffix(items) => Ok(items),
+        Answer::Truth(truth) => capsule(alloc, Shared::new(alloc, Value::Boolean(truth))?),
+    }
+}
+
+/// Whether a condition is true by an answer.
+fn is_true(answer: &Answer) -> bool
+    ensures { result ≡ advance.is_true answer.now }
+{
+    match answer {
+        Answer::Truth(truth) => *truth,
+        Answer::Value(_) | Answer::Suffix(_) => false,
     }
 }
 
 impl Expander {
-    /// The newest call gets what it waits for, with the front that stands behind it, which is used up: it asks for more,
-    /// or goes on with the text. A front that was put back is not looked at. An answer that no call waits for does nothing.
+    /// What waits for an answer gets it, with the front that stands behind it, which is used up: a call asks for more,
+    /// or goes on with the text, and so does a condition that is true. A front that was put back is not looked at. An
+    /// answer that nothing waits for does nothing.
     ///
-    /// `BadArguments` where an argument is missing or in excess, `Unexpected` where the last one is not closed, or `of` is
-    /// missing.
+    /// `BadArguments` where an argument is missing or in excess, `Unexpected` where the last one is not closed, or `of`
+    /// or the `:` of a condition is missing.
     #[tactic(auto, unfolding(crate::specs::Advance::answered))]
     pub fn answer(
         &mut self,
@@ -50,13 +67,17 @@ impl Expander {
         ensures kept { self.new.budget ≡ self.old.budget }
         ensures lost { LosesFirst result self.old self.new }
     {
-        match self.waiting() {
-            Some((call, behind)) => {
+        match self.asking() {
+            Some(Asker::Argument(call, behind)) => {
                 let alloc = self.alloc;
                 let items = items_of(alloc, answer)?;
                 self.leave();
                 let call = call.with_argument(alloc, items)?;
                 self.behind(table, call, behind, front)
+            }
+            Some(Asker::Branch) => {
+                self.leave();
+                self.branch(table, is_true(&answer), front)
             }
             None => Ok(Step::More),
         }
@@ -115,7 +136,7 @@ impl Expander {
         }
     }
 
-    fn unexpected(&self, table: &Symbols<Meaning>, wanted: &[u8], front: Front) -> Stop
+    pub(crate) fn unexpected(&self, table: &Symbols<Meaning>, wanted: &[u8], front: Front) -> Stop
         ensures { IsStop result (unexpected wanted.now (fronts.stood table.now.names front)) }
     {
         Stop::unexpected(self.alloc, wanted, front.stood(table))

@@ -6,7 +6,7 @@ ghost use Rattle.mp_expand.specs.Calls as calls;
 ghost use Rattle.mp_expand.specs.Expansion.{IsWhole};
 
 use crate::expander::Expander;
-use crate::request::{Behind, Call, Delimited, Need, Until};
+use crate::request::{Behind, Call, Delimited, Need, Request, Until};
 use crate::step::{Operand, Step, Want};
 use mp_scaled::{NoMemory, Shared};
 use mp_values::{Arguments, Delimiters, Items, Macro, ParamKind, Stop};
@@ -122,7 +122,7 @@ impl Expander {
         ensures kept { self.new.budget ≡ self.old.budget }
         ensures whole { IsWhole result self.old self.new }
     {
-        self.need(call, Need::Opening(kind))?;
+        self.wait(Request::Call(call, Need::Opening(kind)))?;
         Ok(Step::More)
     }
 
@@ -132,8 +132,17 @@ impl Expander {
         ensures kept { self.new.budget ≡ self.old.budget }
         ensures whole { IsWhole result self.old self.new }
     {
+        self.request(Request::Call(call, Need::Answer(behind)), want)
+    }
+
+    /// It waits for the answer to what is asked for.
+    pub(crate) fn request(&mut self, request: Request, want: Want) -> Result<Step, Stop>
+        ensures exact { Yields result self.new (calls.ask_for request want self.old) }
+        ensures kept { self.new.budget ≡ self.old.budget }
+        ensures whole { IsWhole result self.old self.new }
+    {
         self.enter()?;
-        self.need(call, Need::Answer(behind))?;
+        self.wait(request)?;
         Ok(Step::Want(want))
     }
 
@@ -152,7 +161,7 @@ impl Expander {
         ensures kept { self.new.budget ≡ self.old.budget }
         ensures whole { IsWhole result self.old self.new }
     {
-        self.need(call, Need::Text(until, 0))?;
+        self.wait(Request::Call(call, Need::Text(until, 0)))?;
         Ok(Step::More)
     }
 

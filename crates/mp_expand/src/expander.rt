@@ -7,7 +7,7 @@ ghost use Rattle.mp_expand.specs.Steps as steps;
 ghost use Rattle.mp_expand.specs.Expansion.{IsWhole};
 
 use crate::NESTING_LIMIT;
-use crate::request::Request;
+use crate::request::{Branch, Request};
 use mp_input::Input;
 use mp_report::{Cap, Place, SourceError};
 use mp_scaled::{NoMemory, Shared};
@@ -16,7 +16,7 @@ use mp_values::{Item, Pending, Stop};
 use std::alloc::Global;
 use std::marker::Model;
 
-/// The text that is left to read, with the calls that are not yet whole. Contracts see its [`Expansion`].
+/// The text that is left to read, with what waits for more of it and the conditions that are open. Contracts see its [`Expansion`].
 #[derive(Drop)]
 pub struct Expander {
     pub(crate) alloc: Global,
@@ -24,8 +24,9 @@ pub struct Expander {
     steps: u64,
     budget: u64,
     nesting: u32,
-    // the last one is the newest
+    // the last one is the newest, here and of the conditions
     pub(crate) requests: Vec<Request>,
+    pub(crate) conditions: Vec<Branch>,
 }
 
 impl Model for Expander {
@@ -41,6 +42,7 @@ impl Model for Expander {
       budget = e.budget;
       nesting = e.nesting;
       requests = reverse e.requests.items;
+      conditions = reverse e.conditions.items;
     } };
 
     ghost invariant = { λ e. e.steps ≤ e.budget };
@@ -55,6 +57,7 @@ impl Expander {
         ensures budget { result.budget ≡ budget }
         ensures nesting { result.nesting ≡ 0 }
         ensures requests { result.requests ≡ [] }
+        ensures conditions { result.conditions ≡ [] }
     {
         Expander {
             alloc,
@@ -63,6 +66,7 @@ impl Expander {
             budget,
             nesting: 0,
             requests: Vec::new(alloc),
+            conditions: Vec::new(alloc),
         }
     }
 

@@ -3,10 +3,10 @@
 ghost use Rattle.std.specs.Prelude.{◌≡◌};
 ghost use Rattle.mp_expand.specs.Fronts as fronts;
 
-use mp_values::{Delimiters, Scaled, Secondary, Tertiary, Word};
+use mp_values::{Comparison, Delimiters, Expression, Scaled, Secondary, Tertiary, Word};
 
 /// The first item of a text that expansion neither replaces nor passes over. A symbol keeps what it means.
-#[derive(Clone, Copy, Debug)]
+#[derive(Clone, Copy)]
 pub enum Front {
     /// A number; one that a suffix stands for may be negative.
     Number(Scaled),
@@ -30,6 +30,15 @@ pub enum Front {
     EndOfText,
 }
 
+/// What `=` does behind a tertiary.
+#[derive(Clone, Copy)]
+pub enum Equals {
+    /// It compares.
+    Compares,
+    /// It ends the expression, as at the top of a statement.
+    Ends,
+}
+
 impl Front {
     /// The operator that the front is between primaries.
     pub fn secondary(self) -> Option<Secondary>
@@ -47,6 +56,19 @@ impl Front {
     {
         match &self {
             Front::Word(_, Word::Tertiary(operator)) => Some(*operator),
+            _ => None,
+        }
+    }
+
+    /// The operator that the front is between tertiaries.
+    pub fn joining(self, equals: Equals) -> Option<Expression>
+        ensures { result ≡ fronts.joining_in equals self }
+    {
+        match (&self, equals) {
+            (Front::Word(_, Word::Expression(operator)), _) => Some(*operator),
+            (Front::Word(_, Word::Equals), Equals::Compares) => {
+                Some(Expression::Compare(Comparison::Equal))
+            }
             _ => None,
         }
     }
@@ -82,7 +104,7 @@ fn word_begins_primary(word: Word) -> bool
     ensures { result ≡ fronts.word_begins_primary word }
 {
     match word {
-        Word::Begingroup | Word::Str => true,
+        Word::Begingroup | Word::Str | Word::Nullary(_) => true,
         _ => word.unary().is_some(),
     }
 }

@@ -1,10 +1,10 @@
-//! Calls that have not got all their arguments.
+//! What waits for more of the text: calls of macros that have not got all their arguments, and conditions.
 
 use mp_scaled::Shared;
-use mp_values::{Arguments, Delimiters, Items, Macro};
+use mp_values::{Arguments, Condition, Delimiters, Items, Macro};
 
 /// What an argument between delimiters is.
-#[derive(Clone, Copy, Debug, PartialEq, Eq)]
+#[derive(Clone, Copy)]
 pub enum Delimited {
     /// The value of an expression.
     Expr,
@@ -15,7 +15,7 @@ pub enum Delimited {
 }
 
 /// What must stand behind an argument that was asked for.
-#[derive(Clone, Copy, Debug, PartialEq, Eq)]
+#[derive(Clone, Copy)]
 pub enum Behind {
     /// A comma, or the right one of these delimiters.
     Delimiter(Delimiters),
@@ -26,7 +26,7 @@ pub enum Behind {
 }
 
 /// What ends a text argument.
-#[derive(Clone, Copy, Debug, PartialEq, Eq)]
+#[derive(Clone, Copy)]
 pub enum Until {
     /// The right one of these delimiters, which then is used up.
     Delimiter(Delimiters),
@@ -35,7 +35,7 @@ pub enum Until {
 }
 
 /// What a call needs next.
-#[derive(Clone, Copy, Debug, PartialEq, Eq)]
+#[derive(Clone, Copy)]
 pub enum Need {
     /// A left delimiter, and behind it such an argument.
     Opening(Delimited),
@@ -46,7 +46,7 @@ pub enum Need {
 }
 
 /// A call of a macro, with the arguments that it has got.
-#[derive(Debug, Drop)]
+#[derive(Drop)]
 pub struct Call {
     pub called: Shared<Macro>,
     /// The arguments so far, with those that an operator or the macro of a variable has before its first parameter.
@@ -57,9 +57,60 @@ pub struct Call {
     pub text: Items,
 }
 
-/// A call that has not got all its arguments, and what it needs next.
-#[derive(Debug, Drop)]
-pub struct Request {
-    pub call: Call,
-    pub need: Need,
+/// A part of the text that an open or a false condition passes over.
+#[derive(Clone, Copy)]
+pub enum Skip {
+    /// Up to the next branch of the condition, or to its `fi`.
+    ToBranch,
+    /// Up to the `fi` of the condition.
+    ToEnd,
+}
+
+/// The branch of an open condition that is read.
+#[derive(Clone, Copy)]
+pub enum Branch {
+    /// That of its `if` or of an `elseif`.
+    BeforeElse,
+    /// That of its `else`.
+    BehindElse,
+}
+
+/// What waits for more of the text.
+#[derive(Drop)]
+pub enum Request {
+    /// A call that has not got all its arguments, and what it needs next.
+    Call(Call, Need),
+    /// The condition of that word, `if` or `elseif`, waits for the answer whether it is true.
+    Truth(Condition),
+    /// The `:` behind an `else` whose branch is to be read.
+    Colon,
+    /// A part of the text that is passed over, inside so many conditions of its own.
+    Skip(Skip, u32),
+}
+
+/// What takes the items of the text as they stand.
+#[derive(Drop)]
+pub enum Reader {
+    /// A call that reads a text, up to that, inside so many pairs.
+    Text(Call, Until, u32),
+    /// A part that is passed over, inside so many conditions.
+    Skip(Skip, u32),
+}
+
+/// What needs a front of one kind.
+#[derive(Drop)]
+pub enum Opener {
+    /// A call needs a left delimiter, and behind it such an argument.
+    Argument(Call, Delimited),
+    /// An `else` needs its `:`.
+    Branch,
+}
+
+/// What waits for an answer.
+#[derive(Drop)]
+pub enum Asker {
+    /// A call, for an argument, with that behind it.
+    Argument(Call, Behind),
+    /// A condition, for its truth, with a `:` behind it.
+    Branch,
 }

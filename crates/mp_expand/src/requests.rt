@@ -1,51 +1,74 @@
-//! The calls that have not got all their arguments.
+//! What waits for more of the text, the newest first.
 
 ghost use Rattle.std.specs.Prelude.{◌≡◌, OnOk, OnErr};
 ghost use Rattle.mp_expand.specs.Calls as calls;
 ghost use Rattle.mp_expand.specs.Expansion as expansion;
-ghost use Rattle.mp_expand.specs.Expansion.{TakesOff};
+ghost use Rattle.mp_expand.specs.Expansion.{IsRest, TakesOff};
 
 use crate::expander::Expander;
-use crate::request::{Behind, Call, Delimited, Need, Request, Until};
+use crate::request::{Asker, Need, Opener, Reader, Request};
 use mp_scaled::NoMemory;
 
 impl Expander {
-    /// The newest call is taken off where it reads a text: up to what, and inside how many pairs.
-    pub(crate) fn reading(&mut self) -> Option<(Call, (Until, u32))>
+    /// The newest request is taken off where it takes items as they stand.
+    pub(crate) fn reading(&mut self) -> Option<Reader>
         ensures { TakesOff (expansion.reading self.old.requests) result self.old self.new }
     {
-        match self.requests.last()?.need {
-            Need::Text(until, depth) => Some((self.requests.pop()?.call, (until, depth))),
+        let (Request::Call(_, Need::Text(_, _)) | Request::Skip(_, _)) = self.requests.last()?
+        else {
+            return None;
+        };
+        match self.requests.pop()? {
+            Request::Call(call, need) => match need {
+                Need::Text(until, depth) => Some(Reader::Text(call, until, depth)),
+                _ => None,
+            },
+            Request::Skip(skip, depth) => Some(Reader::Skip(skip, depth)),
             _ => None,
         }
     }
 
-    /// The newest call is taken off where it needs a left delimiter: before what argument.
-    pub(crate) fn opening(&mut self) -> Option<(Call, Delimited)>
+    /// The newest request is taken off where it needs a front of one kind.
+    pub(crate) fn opening(&mut self) -> Option<Opener>
         ensures { TakesOff (expansion.opening self.old.requests) result self.old self.new }
     {
-        match self.requests.last()?.need {
-            Need::Opening(kind) => Some((self.requests.pop()?.call, kind)),
+        let (Request::Call(_, Need::Opening(_)) | Request::Colon) = self.requests.last()? else {
+            return None;
+        };
+        match self.requests.pop()? {
+            Request::Call(call, need) => match need {
+                Need::Opening(kind) => Some(Opener::Argument(call, kind)),
+                _ => None,
+            },
+            Request::Colon => Some(Opener::Branch),
             _ => None,
         }
     }
 
-    /// The newest call is taken off where it waits for an answer: what must stand behind it.
-    pub(crate) fn waiting(&mut self) -> Option<(Call, Behind)>
-        ensures { TakesOff (expansion.waiting self.old.requests) result self.old self.new }
+    /// The newest request is taken off where it waits for an answer.
+    pub(crate) fn asking(&mut self) -> Option<Asker>
+        ensures taken { TakesOff (expansion.asking self.old.requests) result self.old self.new }
+        ensures rest { IsRest self.old.requests self.new.requests }
     {
-        match self.requests.last()?.need {
-            Need::Answer(behind) => Some((self.requests.pop()?.call, behind)),
+        let (Request::Call(_, Need::Answer(_)) | Request::Truth(_)) = self.requests.last()? else {
+            return None;
+        };
+        match self.requests.pop()? {
+            Request::Call(call, need) => match need {
+                Need::Answer(behind) => Some(Asker::Argument(call, behind)),
+                _ => None,
+            },
+            Request::Truth(_) => Some(Asker::Branch),
             _ => None,
         }
     }
 
-    /// A call stands before the others, and needs that.
-    pub(crate) fn need(&mut self, call: Call, need: Need) -> Result<(), NoMemory>
-        ensures ok { OnOk result (self.new ≡ calls.with_request call need self.old) }
+    /// It waits for more of the text, before what waited.
+    pub(crate) fn wait(&mut self, request: Request) -> Result<(), NoMemory>
+        ensures ok { OnOk result (self.new ≡ calls.with_request request self.old) }
         ensures err { OnErr result (self.new ≡ self.old) }
     {
-        self.requests.push(Request { call, need })?;
+        self.requests.push(request)?;
         Ok(())
     }
 }

@@ -2,10 +2,10 @@
 
 use crate::Front;
 use mp_scaled::{Shared, SharedSlice};
-use mp_values::{Items, Value};
+use mp_values::{Condition, Items, Value};
 
-/// What is read for a call.
-#[derive(Clone, Copy, Debug, PartialEq, Eq)]
+/// What is read for a call or a condition.
+#[derive(Clone, Copy)]
 pub enum Operand {
     /// The value of a primary.
     Primary,
@@ -17,10 +17,12 @@ pub enum Operand {
     Expression,
     /// The parts of a suffix.
     Suffix,
+    /// Whether the expression behind that word, `if` or `elseif`, is true.
+    Condition(Condition),
 }
 
-/// What a call asks for.
-#[derive(Clone, Copy, Debug, PartialEq, Eq)]
+/// What a call or a condition asks for.
+#[derive(Clone, Copy)]
 pub enum Want {
     /// An operand, and the front behind it.
     Followed(Operand),
@@ -28,16 +30,18 @@ pub enum Want {
     Last(Operand),
 }
 
-/// What is answered to a call that asked.
-#[derive(Debug, Drop)]
+/// What is answered to a call or a condition that asked.
+#[derive(Drop)]
 pub enum Answer {
     Value(Shared<Value>),
     /// The symbols and numbers that the suffix is.
     Suffix(Shared<Items>),
+    /// The truth of a condition.
+    Truth(bool),
 }
 
 /// What comes of one more item.
-#[derive(Debug, Drop)]
+#[derive(Drop)]
 pub enum Step {
     /// Nothing yet: the next item is to be taken.
     More,
@@ -47,6 +51,6 @@ pub enum Step {
     Text(SharedSlice<u8>),
     /// A value that stands for an expression which was evaluated.
     Capsule(Shared<Value>),
-    /// A call waits for this.
+    /// A call or a condition waits for this.
     Want(Want),
 }

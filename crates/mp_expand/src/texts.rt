@@ -10,7 +10,7 @@ ghost use Rattle.mp_expand.specs.Expansion.{IsWhole};
 use crate::calls::are_pair;
 use crate::expander::Expander;
 use crate::names::meaning_of;
-use crate::request::{Call, Need, Until};
+use crate::request::{Call, Need, Request, Until};
 use crate::step::Step;
 use mp_report::SourceError;
 use mp_scaled::{NoMemory, Shared};
@@ -19,7 +19,7 @@ use mp_values::{Item, Items, Meaning, Pending, Stop, Word};
 use std::mem::replace;
 
 /// What a symbol is in a text argument.
-#[derive(Clone, Copy, Debug, PartialEq, Eq)]
+#[derive(Clone, Copy)]
 pub enum Mark {
     /// It begins a pair of delimiters or a group inside the text.
     Begins,
@@ -71,7 +71,7 @@ impl Expander {
         ensures kept { self.new.budget ≡ self.old.budget }
         ensures whole { IsWhole result self.old self.new }
     {
-        self.need(call, Need::Text(until, depth))?;
+        self.wait(Request::Call(call, Need::Text(until, depth)))?;
         Ok(Step::More)
     }
 

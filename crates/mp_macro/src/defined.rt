@@ -4,7 +4,7 @@ use mp_values::Macro;
 use mp_vartree::Pattern;
 
 /// What a definition defines, and the macro that it gets.
-#[derive(Debug, Drop)]
+#[derive(Drop)]
 pub struct Defined {
     /// The symbol that gets the macro, or the tag of the variable that does.
     pub symbol: u32,

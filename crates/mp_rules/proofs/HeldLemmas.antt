@@ -30,6 +30,7 @@ use Rattle.mp_expand.specs.declared.request.Call.{Call}
 use Rattle.mp_expand.specs.declared.request.Need.{Need}
 use Rattle.mp_expand.specs.declared.request.Need.TheVariants as need
 use Rattle.mp_expand.specs.declared.request.Request.{Request}
+use Rattle.mp_expand.specs.declared.request.Request.TheVariants as request
 use Rattle.mp_expand.specs.declared.request.Until.{Until}
 use Rattle.mp_expand.specs.declared.request.Until.TheVariants as until
 use Rattle.mp_expand.specs.declared.step.Answer.{Answer}
@@ -184,13 +185,19 @@ module _ (n : Counts) where
       (items_within c.text h.text)
 
   request_there : (r : Request) → IsWithin (reach_of_request r) n → HoldsRequest There IsInternal r
-  request_there r h = record {
-    call = call_there r.call (first_of (reach_of_call r.call) (reach_of_need r.need) n h);
-    need = need_there r.need (second_of (reach_of_call r.call) (reach_of_need r.need) n h);
-  }
+  request_there (request.Call c x) h = (
+    call_there c (first_of (reach_of_call c) (reach_of_need x) n h),
+    need_there x (second_of (reach_of_call c) (reach_of_need x) n h),
+  )
+  request_there (request.Truth w) h = tt
+  request_there request.Colon h = tt
+  request_there (request.Skip k depth) h = tt
 
   request_within : (r : Request) → HoldsRequest There IsInternal r → IsWithin (reach_of_request r) n
-  request_within r h = both_within (reach_of_call r.call) (reach_of_need r.need) n (call_within r.call h.call) (need_within r.need h.need)
+  request_within (request.Call c x) h = both_within (reach_of_call c) (reach_of_need x) n (call_within c h.0) (need_within x h.1)
+  request_within (request.Truth w) h = none_in n
+  request_within request.Colon h = none_in n
+  request_within (request.Skip k depth) h = none_in n
 
   requests_there : (rs : List Request) → IsWithin (greatest reach_of_request rs) n → All (HoldsRequest There IsInternal) rs
   requests_there [] h = All-nil (HoldsRequest There IsInternal)

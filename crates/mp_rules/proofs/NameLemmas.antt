@@ -13,15 +13,16 @@ use Rattle.mp_vartree.specs.declared.names.Part.{Part}
 use Rattle.mp_vartree.specs.declared.names.Part.TheVariants as part
 use Rattle.mp_acts.specs.Counts.{Counts, nothing, greatest, IsWithin}
 use Rattle.mp_values.specs.declared.value.Value.{Value}
+use Rattle.mp_values.specs.declared.value.Value.TheVariants as value
 use Rattle.mp_acts.specs.Reach.{reach, reach_of_item, reach_of_macro, reach_of_meaning, reach_of_part, one_symbol}
-use Rattle.mp_expand.specs.Advance.{items_of}
+use Rattle.mp_expand.specs.Advance.{items_of, capsule}
 use Rattle.mp_expand.specs.Fronts.{Table, meaning_of, joins_at, macro_at, operator_in}
 use Rattle.mp_expand.specs.declared.front.Front.{Front}
 use Rattle.mp_expand.specs.declared.front.Front.TheVariants as front
 use Rattle.mp_expand.specs.declared.step.Answer.{Answer}
 use Rattle.mp_expand.specs.declared.step.Answer.TheVariants as answer
 use Rattle.mp_rules.specs.Reach.{reach_of_maybe_macro}
-use Rattle.mp_rules.specs.Rules.{item_of_part, name_items, called_with, capsule}
+use Rattle.mp_rules.specs.Rules.{item_of_part, name_items, called_with}
 use Rattle.mp_rules.proofs.ReachLemmas.{first_within, none_in, both_within, take_within, drop_within}
 
 -- a value in place of an expression speaks of what the value does
@@ -103,6 +104,10 @@ operands_within n left right arguments is a b =
 -- what is answered speaks of what the operand does
 pub value_within : (n : Counts) (v : Value) (a : Answer) → a ≡ answer.Value v → IsWithin (reach v) n → IsWithin (greatest reach_of_item (items_of a)) n
 value_within n v a is h = rw is (capsule_within n v h)
+
+-- a truth speaks of nothing
+pub truth_within : (n : Counts) (truth : Bool) → IsWithin (greatest reach_of_item (items_of (answer.Truth truth))) n
+truth_within n truth = capsule_within n (value.Boolean truth) (none_in n)
 
 pub suffix_within : (n : Counts) (parts : List Part) (a : Answer) → a ≡ answer.Suffix (map item_of_part parts) → IsWithin (greatest reach_of_part parts) n
     → IsWithin (greatest reach_of_item (items_of a)) n

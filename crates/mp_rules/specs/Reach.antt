@@ -19,6 +19,7 @@ use Rattle.mp_expand.specs.declared.request.Call.{Call}
 use Rattle.mp_expand.specs.declared.request.Need.{Need}
 use Rattle.mp_expand.specs.declared.request.Need.TheVariants as need
 use Rattle.mp_expand.specs.declared.request.Request.{Request}
+use Rattle.mp_expand.specs.declared.request.Request.TheVariants as request
 use Rattle.mp_expand.specs.declared.request.Until.{Until}
 use Rattle.mp_expand.specs.declared.request.Until.TheVariants as until
 use Rattle.mp_expand.specs.declared.step.Step.{Step}
@@ -94,10 +95,14 @@ reach_of_need (need.Text u depth) = reach_of_until u
 abbrev pub reach_of_call : Call → Counts
 reach_of_call c = most (most (reach_of_macro c.called) (greatest (greatest reach_of_item) c.got)) (greatest reach_of_item c.text)
 
+-- a condition speaks of nothing
 abbrev pub reach_of_request : Request → Counts
-reach_of_request r = most (reach_of_call r.call) (reach_of_need r.need)
+reach_of_request (request.Call c need) = most (reach_of_call c) (reach_of_need need)
+reach_of_request (request.Truth w) = nothing
+reach_of_request request.Colon = nothing
+reach_of_request (request.Skip skip depth) = nothing
 
--- the text that is left, and the calls that are not yet whole
+-- the text that is left, and what waits for more of it
 abbrev pub reach_of_expansion : Expansion → Counts
 reach_of_expansion e = most (reach_of_text e.text) (greatest reach_of_request e.requests)
 

@@ -6,7 +6,7 @@ use Rattle.mp_report.specs.declared.error.Cap.TheVariants as cap
 use Rattle.mp_report.specs.declared.error.SourceError.TheVariants as error
 use Rattle.mp_values.specs.Outcome.{◌>>=◌, give, halt, lift, change, Refused}
 use Rattle.mp_values.specs.Refusals.{bad_token}
-use Rattle.mp_values.specs.Words.{unary_of}
+use Rattle.mp_values.specs.Words.{name_of_condition, unary_of}
 use Rattle.mp_values.specs.declared.item.Item.{Item}
 use Rattle.mp_values.specs.declared.item.Item.TheVariants as item
 use Rattle.mp_values.specs.declared.macros.Level.{Level}
@@ -21,7 +21,10 @@ use Rattle.mp_values.specs.declared.value.Value.{Value}
 use Rattle.mp_values.specs.declared.value.Value.TheVariants as value
 use Rattle.mp_values.specs.declared.word.Command.{Command}
 use Rattle.mp_values.specs.declared.word.Command.TheVariants as command
+use Rattle.mp_values.specs.declared.word.Condition.{Condition}
 use Rattle.mp_values.specs.declared.word.Definition.{Definition}
+use Rattle.mp_values.specs.declared.word.Expression.{Expression as ExpressionOperator}
+use Rattle.mp_values.specs.declared.word.Nullary.{Nullary}
 use Rattle.mp_values.specs.declared.word.Secondary.{Secondary as SecondaryOperator}
 use Rattle.mp_values.specs.declared.word.Secondary.TheVariants as operator
 use Rattle.mp_values.specs.declared.word.Speech.{Speech}
@@ -36,18 +39,18 @@ use Rattle.mp_vartree.specs.declared.names.Shape.{Shape}
 use Rattle.mp_vartree.specs.declared.names.Shape.TheVariants as shape
 use Rattle.mp_macro.specs.Definitions.{start, defined}
 use Rattle.mp_acts.specs.State.{symbol_name, symbol_meaning}
-use Rattle.mp_acts.specs.Arithmetic.{known_number, fraction}
-use Rattle.mp_acts.specs.Arithmetic as act
+use Rattle.mp_acts.specs.Numbers.{known_number, fraction}
+use Rattle.mp_acts.specs.Operators as act
 use Rattle.mp_acts.specs.Suffixes.{suffix_string, string_token, subscript}
 use Rattle.mp_acts.specs.Variables.{root_of, macro_named, read, declare, define}
 use Rattle.mp_acts.specs.Definitions.{group_symbols}
 use Rattle.mp_acts.specs.Lines.{show, speak}
 use Rattle.mp_acts.specs.Groups.{begin_group, end_group, with_each, let_symbol, delimiters, interim}
 use Rattle.mp_acts.specs.declared.target.Target.TheVariants as target
-use Rattle.mp_expand.specs.Fronts.{secondary_in, tertiary_in, operator_in, begins_primary, begins_factor}
+use Rattle.mp_expand.specs.Fronts.{secondary_in, tertiary_in, joining_in, operator_in, begins_primary, begins_factor}
 use Rattle.mp_expand.specs.Steps.{take_first, enter}
 use Rattle.mp_expand.specs.Calls.{are_pair, call}
-use Rattle.mp_expand.specs.Advance.{advance}
+use Rattle.mp_expand.specs.Advance.{advance, capsule}
 use Rattle.mp_expand.specs.declared.step.Answer.{Answer as Given}
 use Rattle.mp_expand.specs.declared.step.Answer.TheVariants as answer
 use Rattle.mp_expand.specs.declared.step.Operand.{Operand}
@@ -63,6 +66,8 @@ use Rattle.mp_rules.specs.Chains.{settle}
 use Rattle.mp_rules.specs.Definitions.{definition_read}
 use Rattle.mp_expand.specs.declared.front.Front.{Front}
 use Rattle.mp_expand.specs.declared.front.Front.TheVariants as front
+use Rattle.mp_expand.specs.declared.front.Equals.{Equals}
+use Rattle.mp_expand.specs.declared.front.Equals.TheVariants as equals
 use Rattle.mp_rules.specs.declared.front.Taken.{Taken}
 use Rattle.mp_rules.specs.declared.front.Taken.TheVariants as taken
 use Rattle.mp_rules.specs.declared.front.Raw.{Raw}
@@ -92,8 +97,8 @@ pub data What : Type 0 where
   Secondary : What
   TertiaryRest : Value → What
   Tertiary : What
-  ExpressionRest : Value → What
-  ExpressionFrom : Value → What
+  ExpressionRest : Value → Equals → What
+  ExpressionFrom : Value → Equals → What
   Expression : What
   ChainSide : What
   ChainRest : List Side → Side → What
@@ -191,6 +196,17 @@ value_answer does = do
   v ← does
   give (answer.Value v)
 
+-- the operand of a condition is a truth
+abbrev pub truth_of : Condition → Value → Rule Given
+truth_of w v = do
+  truth ← acting (act.truth (name_of_condition w) v)
+  give (answer.Truth truth)
+
+abbrev pub truth_answer : Rules → Condition → Rule Given
+truth_answer rule w = do
+  v ← rule Expression
+  truth_of w v
+
 abbrev pub operand_of : Rules → Operand → Rule Given
 operand_of rule operand.Primary = value_answer (rule Primary)
 operand_of rule operand.Secondary = value_answer (rule Secondary)
@@ -199,6 +215,7 @@ operand_of rule operand.Expression = value_answer (rule Expression)
 operand_of rule operand.Suffix = do
   parts ← rule (Suffix [])
   give (answer.Suffix (map item_of_part parts))
+operand_of rule (operand.Condition w) = truth_answer rule w
 
 -- what is answered to it: what stands behind an argument without delimiters is put back before
 abbrev pub answer_to : Rules → Want → Rule Given
@@ -526,6 +543,12 @@ internal rule k = do
   next ← rule NextFront
   internal_number k
 
+-- a word that stands for a value
+abbrev pub constant : Rules → Nullary → Rule Value
+constant rule w = do
+  next ← rule NextFront
+  acting (act.nullary w)
+
 -- str SUFFIX
 abbrev pub str_primary : Rules → Rule Value
 str_primary rule = do
@@ -549,6 +572,7 @@ primary_by rule front.Text = string_primary rule
 primary_by rule front.Capsule = value_primary rule
 primary_by rule (front.Word symbol word.Begingroup) = rule Group
 primary_by rule (front.Word symbol word.Str) = str_primary rule
+primary_by rule (front.Word symbol (word.Nullary w)) = constant rule w
 primary_by rule (front.Word symbol w) = applied_by rule (unary_of w)
 primary_by rule (front.Tag symbol) = variable rule symbol
 primary_by rule (front.Internal symbol k) = internal rule k
@@ -613,10 +637,6 @@ leading rule = do
 
 -- SECONDARIES, TERTIARIES, EXPRESSIONS
 
--- a value in place of its expression, in a text
-abbrev pub capsule : Value → List Item
-capsule v = item.Capsule v ∷ []
-
 -- the macro of a user that the front in hand is between operands of a level
 abbrev pub operator_here : Level → Machine → Option Macro
 operator_here l s = operator_in s.acts.symbols.names l s.front
@@ -675,38 +695,46 @@ tertiary rule = do
   v ← rule Secondary
   rule (TertiaryRest v)
 
--- no operator of the highest level is built but those of users
-abbrev pub expression_by : Rules → Value → Option Macro → Rule Value
-expression_by rule v (Some m) = do
-  next ← rule NextFront
-  right ← rule Tertiary
+abbrev pub next_tertiary : Rules → Rule Value
+next_tertiary rule = do
+  first ← rule NextFront
+  rule Tertiary
+
+abbrev pub expression_by : Rules → Equals → Value → Option ExpressionOperator → Option Macro → Rule Value
+expression_by rule e v (Some op) m = do
+  right ← next_tertiary rule
+  both ← acting (act.expression op v right)
+  rule (ExpressionRest both e)
+expression_by rule e v None (Some m) = do
+  right ← next_tertiary rule
   on ← joined rule m v right
   first ← rule Tertiary
-  rule (ExpressionRest first)
-expression_by rule v None = give v
+  rule (ExpressionRest first e)
+expression_by rule e v None None = give v
 
-abbrev pub expression_rest : Rules → Value → Rule Value
-expression_rest rule v s = expression_by rule v (operator_here level.Tertiary s) s
+abbrev pub expression_rest : Rules → Value → Equals → Rule Value
+expression_rest rule v e s = expression_by rule e v (joining_in e s.front) (operator_here level.Tertiary s) s
 
 -- the rest of an expression that begins with a primary
-abbrev pub expression_from : Rules → Value → Rule Value
-expression_from rule v = do
+abbrev pub expression_from : Rules → Value → Equals → Rule Value
+expression_from rule v e = do
   second ← rule (SecondaryRest v)
   third ← rule (TertiaryRest second)
-  rule (ExpressionRest third)
+  rule (ExpressionRest third e)
 
+-- an expression, in which = compares
 abbrev pub expression : Rules → Rule Value
 expression rule = do
   v ← rule Primary
-  rule (ExpressionFrom v)
+  rule (ExpressionFrom v equals.Compares)
 
 -- EQUATIONS AND ASSIGNMENTS
 
--- a side of a chain: a target, with its := in hand, or an expression
+-- a side of a chain: a target, with its := in hand, or an expression, which = ends
 abbrev pub side_from : Rules → Side → Rule Side
 side_from rule (side.Target t) = give (side.Target t)
 side_from rule (side.Value v) = do
-  w ← rule (ExpressionFrom v)
+  w ← rule (ExpressionFrom v equals.Ends)
   give (side.Value w)
 
 abbrev pub chain_side : Rules → Rule Side
@@ -1019,8 +1047,8 @@ case rule (SecondaryRest v) = secondary_rest rule v
 case rule Secondary = secondary rule
 case rule (TertiaryRest v) = tertiary_rest rule v
 case rule Tertiary = tertiary rule
-case rule (ExpressionRest v) = expression_rest rule v
-case rule (ExpressionFrom v) = expression_from rule v
+case rule (ExpressionRest v e) = expression_rest rule v e
+case rule (ExpressionFrom v e) = expression_from rule v e
 case rule Expression = expression rule
 case rule ChainSide = chain_side rule
 case rule (ChainRest before last) = chain_rest rule before last

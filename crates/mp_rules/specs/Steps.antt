@@ -10,7 +10,7 @@ use Rattle.mp_values.specs.declared.value.Value.TheVariants.{Vacuous}
 use Rattle.mp_values.specs.declared.word.Secondary.TheVariants.{Over}
 use Rattle.mp_values.specs.declared.word.Word.TheVariants.{Secondary}
 use Rattle.mp_acts.specs.State.{State, internal_value}
-use Rattle.mp_acts.specs.Arithmetic.{known_number}
+use Rattle.mp_acts.specs.Numbers.{known_number}
 use Rattle.mp_expand.specs.Expansion.{Expansion}
 use Rattle.mp_expand.specs.Expansion as expand
 use Rattle.mp_expand.specs.Steps.{place_of as place_in_text}

@@ -3,7 +3,8 @@
 ghost use Rattle.std.specs.Prelude.{◌≡◌, ◌<◌, Ok, Err, IfOk, OnErr};
 ghost use Rattle.mp_values.specs.Outcome.{change, lift};
 ghost use Rattle.mp_acts.specs.Counts.{IsWithin, greatest, nothing};
-ghost use Rattle.mp_acts.specs.Arithmetic as arithmetic;
+ghost use Rattle.mp_acts.specs.Numbers as numbers;
+ghost use Rattle.mp_acts.specs.Operators as operators;
 ghost use Rattle.mp_acts.specs.Groups as groups;
 ghost use Rattle.mp_acts.specs.Lines as lines;
 ghost use Rattle.mp_acts.specs.Reach.{reach, reach_of_macro, reach_of_part};
@@ -21,7 +22,8 @@ use crate::evaluator::Evaluator;
 use mp_macro::Defined;
 use mp_scaled::{Shared, SharedSlice};
 use mp_values::{
-    Kind, Macro, Scaled, Secondary, Speech, Stop, SymbolCommand, Tertiary, Unary, Value,
+    Expression, Kind, Macro, Nullary, Scaled, Secondary, Speech, Stop, SymbolCommand, Tertiary,
+    Unary, Value,
 };
 use mp_vartree::{Pattern, Suffix};
 
@@ -30,7 +32,7 @@ impl Evaluator {
     #[tactic(auto, using(crate::proofs::Stops::fault_stops))]
     pub(crate) fn unary_of(&self, operator: Unary, right: Value) -> Result<Value, Stop>
         requires { IsWithin (reach right) (things self.now) }
-        ensures { ActsValue (acting (arithmetic.unary operator right)) result self.now self.now }
+        ensures { ActsValue (acting (operators.unary operator right)) result self.now self.now }
     {
         Ok(self.acts.unary(operator, &right)?)
     }
@@ -45,7 +47,7 @@ impl Evaluator {
     ) -> Result<Value, Stop>
         requires left { IsWithin (reach left) (things self.now) }
         requires right { IsWithin (reach right) (things self.now) }
-        ensures { ActsValue (acting (arithmetic.secondary operator left right)) result self.now self.now }
+        ensures { ActsValue (acting (operators.secondary operator left right)) result self.now self.now }
     {
         Ok(self.acts.secondary(operator, &left, &right)?)
     }
@@ -60,14 +62,46 @@ impl Evaluator {
     ) -> Result<Value, Stop>
         requires left { IsWithin (reach left) (things self.now) }
         requires right { IsWithin (reach right) (things self.now) }
-        ensures { ActsValue (acting (arithmetic.tertiary operator left right)) result self.now self.now }
+        ensures { ActsValue (acting (operators.tertiary operator left right)) result self.now self.now }
     {
         Ok(self.acts.tertiary(operator, left, &right)?)
     }
 
+    /// What an operator makes of the tertiaries that it joins.
+    #[tactic(auto, using(crate::proofs::Stops::fault_stops))]
+    pub(crate) fn expression_of(
+        &self,
+        operator: Expression,
+        left: Value,
+        right: Value,
+    ) -> Result<Value, Stop>
+        requires left { IsWithin (reach left) (things self.now) }
+        requires right { IsWithin (reach right) (things self.now) }
+        ensures { ActsValue (acting (operators.expression operator left right)) result self.now self.now }
+    {
+        Ok(self.acts.expression(operator, &left, &right)?)
+    }
+
+    /// What a word stands for.
+    #[tactic(auto, using(crate::proofs::Stops::fault_stops))]
+    pub(crate) fn nullary(&self, word: Nullary) -> Result<Value, Stop>
+        ensures { ActsValue (acting (operators.nullary word)) result self.now self.now }
+    {
+        Ok(self.acts.nullary(word)?)
+    }
+
+    /// The truth that a value is, for that word.
+    #[tactic(auto, using(crate::proofs::Stops::fault_stops))]
+    pub(crate) fn truth_of(&self, op: &[u8], value: Value) -> Result<bool, Stop>
+        requires { IsWithin (reach value) (things self.now) }
+        ensures { Acts (acting (operators.truth op.now value)) result self.now self.now }
+    {
+        Ok(self.acts.truth(op, &value)?)
+    }
+
     /// A number token.
     pub(crate) fn known_number(&self, value: Scaled) -> Value
-        ensures exact { result ≡ arithmetic.known_number value }
+        ensures exact { result ≡ numbers.known_number value }
         ensures within { reach result ≡ nothing }
     {
         self.acts.number(value)
@@ -76,7 +110,7 @@ impl Evaluator {
     /// Two number tokens with a slash between them.
     #[tactic(auto, using(crate::proofs::Stops::fault_stops))]
     pub(crate) fn fraction(&self, over: Scaled, under: Scaled) -> Result<Value, Stop>
-        ensures { ActsValue (acting (lift (arithmetic.fraction over under))) result self.now self.now }
+        ensures { ActsValue (acting (lift (numbers.fraction over under))) result self.now self.now }
     {
         Ok(self.acts.fraction(over, under)?)
     }

@@ -13,7 +13,7 @@ ghost use Rattle.mp_rules.specs.Steps.{acting};
 
 use crate::chain_side::ChainSide;
 use crate::evaluator::Evaluator;
-use mp_expand::Front;
+use mp_expand::{Equals, Front};
 use mp_scaled::NoMemory;
 use mp_values::{Stop, Value, Word};
 
@@ -34,13 +34,13 @@ impl Evaluator {
         match begun {
             ChainSide::Target(target) => Ok(ChainSide::Target(target)),
             ChainSide::Value(value) => {
-                let value = self.expression_from(value)?;
+                let value = self.expression_from(value, Equals::Ends)?;
                 Ok(ChainSide::Value(value))
             }
         }
     }
 
-    /// A side of a chain: a target, or an expression.
+    /// A side of a chain: a target, or an expression, which `=` ends.
     #[cycle(eval)]
     #[tactic(auto, using(crate::proofs::Cases::chain_side_is))]
     fn chain_side(&mut self) -> Result<ChainSide, Stop>

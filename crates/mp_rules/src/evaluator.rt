@@ -3,13 +3,13 @@
 ghost use Rattle.std.specs.Prelude.{◌≡◌, ◌≢◌, ◌<◌, ◌≤◌, List, ℕ, [], ◌∷◌, Err, IfOk, IfSome, OnErr, map};
 ghost use Rattle.std.specs.Option.{option_map};
 ghost use Rattle.mp_values.specs.Outcome.{IsStop, Yields, change};
-ghost use Rattle.mp_expand.specs.Advance.{items_of};
+ghost use Rattle.mp_expand.specs.Advance.{items_of, capsule};
 ghost use Rattle.mp_expand.specs.Steps.{enter};
 ghost use Rattle.mp_acts.specs.Counts.{greatest};
 ghost use Rattle.mp_acts.specs.Reach.{reach, reach_of_item, reach_of_macro};
 ghost use Rattle.mp_rules.specs.Fronts.{raw_stood, refused_front, refused_raw};
 ghost use Rattle.mp_rules.specs.Promises.{Acts, ActsValue, Advances, Answers, Calls, Took};
-ghost use Rattle.mp_rules.specs.Rules.{capsule, operator_here};
+ghost use Rattle.mp_rules.specs.Rules.{operator_here};
 ghost use Rattle.mp_rules.specs.Starts.{start_on, whole};
 ghost use Rattle.mp_rules.specs.Meaning.{the};
 ghost use Rattle.mp_rules.specs.Steps as steps;

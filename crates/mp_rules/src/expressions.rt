@@ -10,6 +10,7 @@ ghost use Rattle.mp_rules.specs.Promises.{Means, Acts, UsesValue};
 ghost use Rattle.mp_rules.specs.Meaning.{the};
 
 use crate::evaluator::Evaluator;
+use mp_expand::Equals;
 use mp_scaled::Shared;
 use mp_values::{Level, Macro, Stop, Value};
 
@@ -100,42 +101,56 @@ impl Evaluator {
         self.tertiary_rest(value)
     }
 
-    /// More tertiaries, joined by operators, from the left.
+    /// The front that is got next, and the tertiary that it begins.
     #[cycle(eval)]
-    #[tactic(auto, using(crate::proofs::Cases::expression_rest_is))]
-    fn expression_rest(&mut self, left: Value) -> Result<Value, Stop>
-        requires { IsWithin (reach left) (things self.old) }
-        ensures { Means (ExpressionRest left) result self.old self.new }
+    fn next_tertiary(&mut self) -> Result<Value, Stop>
+        ensures { UsesValue (rules.next_tertiary the) result self.old self.new }
     {
-        let mut so_far = left;
-        'tertiaries: while let Some(called) = self.operator(Level::Tertiary)? {
-            self.next_front()?;
-            let right = self.tertiary()?;
-            self.joined(called, so_far, right)?;
-            so_far = self.tertiary()?;
-        }
-        Ok(so_far)
+        self.next_front()?;
+        self.tertiary()
     }
 
-    /// The rest of an expression that begins with a primary.
+    /// More tertiaries, joined by operators, from the left. `equals` says whether `=` is one.
+    #[cycle(eval)]
+    #[tactic(auto, using(crate::proofs::Cases::expression_rest_is))]
+    fn expression_rest(&mut self, left: Value, equals: Equals) -> Result<Value, Stop>
+        requires { IsWithin (reach left) (things self.old) }
+        ensures { Means (ExpressionRest left equals) result self.old self.new }
+    {
+        let mut so_far = left;
+        'tertiaries: loop {
+            so_far = if let Some(operator) = self.sign().joining(equals) {
+                let right = self.next_tertiary()?;
+                self.expression_of(operator, so_far, right)?
+            } else if let Some(called) = self.operator(Level::Tertiary)? {
+                let right = self.next_tertiary()?;
+                self.joined(called, so_far, right)?;
+                self.tertiary()?
+            } else {
+                return Ok(so_far);
+            };
+        }
+    }
+
+    /// The rest of an expression that begins with a primary. `equals` says whether `=` is one of its operators.
     #[cycle(eval)]
     #[tactic(auto, using(crate::proofs::Cases::expression_from_is))]
-    pub(crate) fn expression_from(&mut self, first: Value) -> Result<Value, Stop>
+    pub(crate) fn expression_from(&mut self, first: Value, equals: Equals) -> Result<Value, Stop>
         requires { IsWithin (reach first) (things self.old) }
-        ensures { Means (ExpressionFrom first) result self.old self.new }
+        ensures { Means (ExpressionFrom first equals) result self.old self.new }
     {
         let second = self.secondary_rest(first)?;
         let third = self.tertiary_rest(second)?;
-        self.expression_rest(third)
+        self.expression_rest(third, equals)
     }
 
-    /// An expression.
+    /// An expression, in which `=` compares.
     #[cycle(eval)]
     #[tactic(auto, using(crate::proofs::Cases::expression_is))]
     pub(crate) fn expression(&mut self) -> Result<Value, Stop>
         ensures { Means Expression result self.old self.new }
     {
         let first = self.primary()?;
-        self.expression_from(first)
+        self.expression_from(first, Equals::Compares)
     }
 }

@@ -14,7 +14,7 @@ use crate::evaluator::Evaluator;
 use crate::front::{Raw, Taken};
 use crate::names::{answer_of_suffix, answer_of_value};
 use mp_expand::{Answer, Front, Operand, Step, Want};
-use mp_values::{Stop, Value};
+use mp_values::{Condition, Stop, Value};
 use mp_vartree::Suffix;
 
 impl Evaluator {
@@ -95,6 +95,10 @@ impl Evaluator {
                 let parts = self.suffix()?;
                 return self.suffix_answer(parts);
             }
+            Operand::Condition(word) => {
+                let value = self.expression()?;
+                return self.truth_answer(word, value);
+            }
         };
         self.value_answer(value)
     }
@@ -105,6 +109,15 @@ impl Evaluator {
     {
         let answer = answer_of_value(self.alloc, value)?;
         Ok(answer)
+    }
+
+    /// The operand of a condition is a truth.
+    fn truth_answer(&self, word: Condition, value: Value) -> Result<Answer, Stop>
+        requires { IsWithin (reach value) (things self.now) }
+        ensures { ActsAnswer (rules.truth_of word value) result self.now self.now }
+    {
+        let truth = self.truth_of(word.name(), value)?;
+        Ok(Answer::Truth(truth))
     }
 
     fn suffix_answer(&self, parts: Suffix) -> Result<Answer, Stop>

@@ -2,6 +2,7 @@
 
 ghost use Rattle.std.specs.Prelude.{◌≡◌, [], ◌∷◌, ◌++◌, IfOk, OnOk, map};
 ghost use Rattle.mp_values.specs.Ends.{IsNoEnd};
+ghost use Rattle.mp_expand.specs.Advance.{capsule};
 ghost use Rattle.mp_rules.specs.Rules as rules;
 
 use mp_expand::Answer;
@@ -87,7 +88,7 @@ pub(crate) fn operand_arguments(
     left: Value,
     right: Value,
 ) -> Result<Arguments, NoMemory>
-    ensures { IfOk result (λ arguments. arguments ≡ rules.capsule left ∷ rules.capsule right ∷ []) }
+    ensures { IfOk result (λ arguments. arguments ≡ capsule left ∷ capsule right ∷ []) }
 {
     let mut arguments = Arguments::new(alloc);
     arguments.push(one_item(alloc, Item::Capsule(Shared::new(alloc, left)?))?)?;

@@ -15,7 +15,7 @@ use crate::evaluator::Evaluator;
 use crate::named::Named;
 use mp_acts::Target;
 use mp_expand::Front;
-use mp_values::{Delimiters, Scaled, Secondary, Stop, Unary, Value, Word};
+use mp_values::{Delimiters, Nullary, Scaled, Secondary, Stop, Unary, Value, Word};
 use mp_vartree::Suffix;
 
 impl Evaluator {
@@ -171,6 +171,15 @@ impl Evaluator {
         Ok(self.internal_value(k))
     }
 
+    /// A word that stands for a value.
+    #[cycle(eval)]
+    fn constant(&mut self, word: Nullary) -> Result<Value, Stop>
+        ensures { UsesValue (rules.constant the word) result self.old self.new }
+    {
+        self.next_front()?;
+        self.nullary(word)
+    }
+
     /// The text of a suffix.
     #[cycle(eval)]
     fn str_primary(&mut self) -> Result<Value, Stop>
@@ -199,6 +208,7 @@ impl Evaluator {
         match word {
             Word::Begingroup => self.group(),
             Word::Str => self.str_primary(),
+            Word::Nullary(word) => self.constant(word),
             _ => match word.unary() {
                 Some(operator) => self.applied(operator),
                 None => Err(self.unexpected(b"primary")),

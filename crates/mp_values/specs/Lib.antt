@@ -1,4 +1,5 @@
 pub mod Words
+pub mod Kinds
 pub mod Items
 pub mod Outcome
 pub mod Refusals

@@ -18,12 +18,20 @@ use Rattle.mp_values.specs.declared.word.Speech.{Speech}
 use Rattle.mp_values.specs.declared.word.Speech.TheVariants as speech
 use Rattle.mp_values.specs.declared.word.Mode.{Mode}
 use Rattle.mp_values.specs.declared.word.Mode.TheVariants as mode
+use Rattle.mp_values.specs.declared.word.Nullary.{Nullary}
+use Rattle.mp_values.specs.declared.word.Nullary.TheVariants as nullary
 use Rattle.mp_values.specs.declared.word.Unary.{Unary}
 use Rattle.mp_values.specs.declared.word.Unary.TheVariants as unary
 use Rattle.mp_values.specs.declared.word.Secondary.{Secondary}
 use Rattle.mp_values.specs.declared.word.Secondary.TheVariants as secondary
 use Rattle.mp_values.specs.declared.word.Tertiary.{Tertiary}
 use Rattle.mp_values.specs.declared.word.Tertiary.TheVariants as tertiary
+use Rattle.mp_values.specs.declared.word.Comparison.{Comparison}
+use Rattle.mp_values.specs.declared.word.Comparison.TheVariants as comparison
+use Rattle.mp_values.specs.declared.word.Expression.{Expression}
+use Rattle.mp_values.specs.declared.word.Expression.TheVariants as expression
+use Rattle.mp_values.specs.declared.word.Condition.{Condition}
+use Rattle.mp_values.specs.declared.word.Condition.TheVariants as condition
 use Rattle.mp_values.specs.declared.word.Word.{Word}
 use Rattle.mp_values.specs.declared.word.Word.TheVariants as word
 
@@ -87,23 +95,56 @@ name_of_called_name called_name.Before = codes "#@"
 name_of_called_name called_name.Last = codes "@"
 name_of_called_name called_name.Behind = codes "@#"
 
+abbrev pub name_of_nullary : Nullary → List ℕ
+name_of_nullary nullary.True = codes "true"
+name_of_nullary nullary.False = codes "false"
+name_of_nullary nullary.Jobname = codes "jobname"
+
 abbrev pub name_of_unary : Unary → List ℕ
 name_of_unary unary.Plus = codes "+"
 name_of_unary unary.Minus = codes "-"
+name_of_unary unary.Not = codes "not"
+name_of_unary unary.Known = codes "known"
+name_of_unary unary.Unknown = codes "unknown"
+name_of_unary (unary.Is kind) = name_of_kind kind
 
 abbrev pub name_of_secondary : Secondary → List ℕ
 name_of_secondary secondary.Times = codes "*"
 name_of_secondary secondary.Over = codes "/"
+name_of_secondary secondary.And = codes "and"
 
 abbrev pub name_of_tertiary : Tertiary → List ℕ
 name_of_tertiary tertiary.Plus = codes "+"
 name_of_tertiary tertiary.Minus = codes "-"
+name_of_tertiary tertiary.Or = codes "or"
+
+abbrev pub name_of_comparison : Comparison → List ℕ
+name_of_comparison comparison.Less = codes "<"
+name_of_comparison comparison.AtMost = codes "<="
+name_of_comparison comparison.Greater = codes ">"
+name_of_comparison comparison.AtLeast = codes ">="
+name_of_comparison comparison.Equal = codes "="
+name_of_comparison comparison.Unequal = codes "<>"
+
+abbrev pub name_of_expression : Expression → List ℕ
+name_of_expression (expression.Compare c) = name_of_comparison c
+name_of_expression expression.Concatenate = codes "&"
+
+abbrev pub name_of_condition : Condition → List ℕ
+name_of_condition condition.If = codes "if"
+name_of_condition condition.Elseif = codes "elseif"
+name_of_condition condition.Else = codes "else"
+name_of_condition condition.Fi = codes "fi"
 
 abbrev pub name_of_word : Word → List ℕ
+name_of_word (word.Nullary w) = name_of_nullary w
+name_of_word (word.Unary op) = name_of_unary op
 name_of_word (word.Secondary op) = name_of_secondary op
 name_of_word (word.Tertiary op) = name_of_tertiary op
+name_of_word (word.Expression op) = name_of_expression op
 name_of_word word.Comma = codes ","
 name_of_word word.Semicolon = codes ";"
+name_of_word word.Colon = codes ":"
 name_of_word word.Equals = codes "="
 name_of_word word.Assign = codes ":="
 name_of_word word.LeftBracket = codes "["
@@ -112,6 +153,7 @@ name_of_word word.Str = codes "str"
 name_of_word word.Begingroup = codes "begingroup"
 name_of_word word.Endgroup = codes "endgroup"
 name_of_word word.End = codes "end"
+name_of_word (word.Condition w) = name_of_condition w
 name_of_word (word.Command c) = name_of_command c
 name_of_word (word.Definition d) = name_of_definition d
 name_of_word word.Enddef = codes "enddef"
@@ -138,10 +180,20 @@ words =
     ∷ word.Parameter parameter.Primary ∷ word.Parameter parameter.Secondary ∷ word.Parameter parameter.Tertiary
     ∷ word.Parameter parameter.Expr ∷ word.Parameter parameter.Suffix ∷ word.Parameter parameter.Text ∷ word.Of
     ∷ word.CalledName called_name.Before ∷ word.CalledName called_name.Last ∷ word.CalledName called_name.Behind
-    ∷ word.Backslash ∷ []
+    ∷ word.Backslash
+    ∷ word.Nullary nullary.True ∷ word.Nullary nullary.False ∷ word.Nullary nullary.Jobname
+    ∷ word.Unary unary.Not ∷ word.Unary unary.Known ∷ word.Unary unary.Unknown
+    ∷ word.Secondary secondary.And ∷ word.Tertiary tertiary.Or
+    ∷ word.Expression (expression.Compare comparison.Less) ∷ word.Expression (expression.Compare comparison.AtMost)
+    ∷ word.Expression (expression.Compare comparison.Greater) ∷ word.Expression (expression.Compare comparison.AtLeast)
+    ∷ word.Expression (expression.Compare comparison.Unequal) ∷ word.Expression expression.Concatenate
+    ∷ word.Colon ∷ word.Condition condition.If ∷ word.Condition condition.Elseif ∷ word.Condition condition.Else ∷ word.Condition condition.Fi
+    ∷ []
 
--- the operator that a word is before a primary, if it is one
+-- the operator that a word is before a primary, if it is one; the word of a type is a test there
 abbrev pub unary_of : Word → Option Unary
+unary_of (word.Unary op) = Some op
 unary_of (word.Tertiary tertiary.Plus) = Some unary.Plus
 unary_of (word.Tertiary tertiary.Minus) = Some unary.Minus
+unary_of (word.Command (command.Type kind)) = Some (unary.Is kind)
 unary_of w = None

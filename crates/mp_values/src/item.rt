@@ -9,7 +9,7 @@ use mp_scaled::{NoMemory, Shared, SharedSlice};
 use mp_tokens::{BadToken, Token};
 
 /// A piece of a text.
-#[derive(Debug, Drop)]
+#[derive(Drop)]
 pub enum Item {
     /// The symbol of that number in the table of names.
     Symbol(u32),

@@ -10,7 +10,7 @@ use std::marker::Model;
 
 /// Items in their order, of which none is the end of a line, of a file or of the whole text: a macro's body, an
 /// argument, a suffix, or what was read raw. Contracts see a list.
-#[derive(Debug, Drop)]
+#[derive(Drop)]
 pub struct Items {
     inner: Vec<Item>,
 }
@@ -64,7 +64,7 @@ impl Items {
 }
 
 /// The arguments of a call, each as the items that stand for its parameter. Contracts see a list of lists.
-#[derive(Debug, Drop)]
+#[derive(Drop)]
 pub struct Arguments {
     inner: Vec<Shared<Items>>,
 }

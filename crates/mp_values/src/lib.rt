@@ -8,6 +8,7 @@
 mod fault;
 mod item;
 mod items;
+mod kinds;
 mod macros;
 mod meaning;
 mod remaining;
@@ -20,6 +21,7 @@ mod word;
 pub use fault::Fault;
 pub use item::Item;
 pub use items::{Arguments, Items};
+pub use kinds::{has_kind, have_one_kind};
 pub use macros::{Level, Macro, ParamKind, Params};
 pub use meaning::{Delimiters, Meaning, UnbuiltWord};
 pub use remaining::Remaining;
@@ -28,6 +30,6 @@ pub use stop::Stop;
 pub use turn::{LeftOver, Pending, Suffixes, Turn, Values};
 pub use value::{Kind, Value};
 pub use word::{
-    CalledName, Command, Definition, Mode, Parameter, Secondary, Speech, SymbolCommand, Tertiary,
-    Unary, Word,
+    CalledName, Command, Comparison, Condition, Definition, Expression, Mode, Nullary, Parameter,
+    Secondary, Speech, SymbolCommand, Tertiary, Unary, Word,
 };

@@ -7,7 +7,7 @@ use crate::{Definition, Items};
 use mp_scaled::{Listing, Shared};
 
 /// What a parameter of a macro takes.
-#[derive(Clone, Copy, Debug, PartialEq, Eq)]
+#[derive(Clone, Copy)]
 pub enum ParamKind {
     /// An expression between delimiters.
     Expr,
@@ -32,7 +32,7 @@ pub enum ParamKind {
 }
 
 /// How a macro is called.
-#[derive(Clone, Copy, Debug, PartialEq, Eq)]
+#[derive(Clone, Copy)]
 pub enum Level {
     /// By its symbol.
     Plain,
@@ -67,7 +67,7 @@ impl Level {
 pub type Params = Listing<ParamKind>;
 
 /// A macro.
-#[derive(Debug, Drop)]
+#[derive(Drop)]
 pub struct Macro {
     pub params: Params,
     /// What a call stands for, with parameters in place of the arguments.

@@ -9,7 +9,7 @@ use mp_tokens::FreshMeaning;
 use std::marker::Model;
 
 /// A word of the language that is not built, which contracts see as its name.
-#[derive(Debug, Drop)]
+#[derive(Drop)]
 pub struct UnbuiltWord {
     name: &'static [u8],
 }
@@ -39,14 +39,14 @@ impl UnbuiltWord {
 }
 
 /// Two symbols that are a pair of delimiters.
-#[derive(Clone, Copy, Debug, PartialEq, Eq)]
+#[derive(Clone, Copy)]
 pub struct Delimiters {
     pub left: u32,
     pub right: u32,
 }
 
 /// What a symbol means.
-#[derive(Debug, Drop)]
+#[derive(Drop)]
 pub enum Meaning {
     /// A word that is built.
     Word(Word),

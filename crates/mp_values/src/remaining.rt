@@ -9,7 +9,7 @@ use std::marker::Model;
 
 /// What is left of a list whose entries are shared, so that leaving the first one copies none. Contracts see the
 /// list of those that are left.
-#[derive(Debug, Drop)]
+#[derive(Drop)]
 pub struct Remaining<T> {
     entries: Shared<Listing<T>>,
     gone: usize,

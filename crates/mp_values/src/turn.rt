@@ -10,7 +10,7 @@ pub type Values = Remaining<Value>;
 pub type Suffixes = Remaining<Shared<Items>>;
 
 /// What a loop still goes over.
-#[derive(Debug, Drop)]
+#[derive(Drop)]
 pub enum LeftOver {
     /// It has a next turn each time.
     Forever,
@@ -27,7 +27,7 @@ pub enum LeftOver {
 }
 
 /// What stands in the text behind one turn of a loop, and starts the next one when it is taken.
-#[derive(Debug, Drop)]
+#[derive(Drop)]
 pub struct Turn {
     pub left_over: LeftOver,
     /// The body of the loop, in which parameter 0 is its variable.
@@ -37,7 +37,7 @@ pub struct Turn {
 }
 
 /// What the text that is left is a list of.
-#[derive(Debug, Drop)]
+#[derive(Drop)]
 pub enum Pending {
     Item(Item),
     Turn(Shared<Turn>),

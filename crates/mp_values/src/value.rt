@@ -8,7 +8,7 @@ use mp_scaled::{NoMemory, SharedSlice};
 use std::alloc::Global;
 
 /// The types that a variable may have.
-#[derive(Clone, Copy, Debug, PartialEq, Eq)]
+#[derive(Clone, Copy, PartialEq, Eq)]
 pub enum Kind {
     Boolean,
     Numeric,
@@ -29,7 +29,7 @@ impl Kind {
 }
 
 /// A value.
-#[derive(Debug, Drop)]
+#[derive(Drop)]
 pub enum Value {
     Boolean(bool),
     /// A number: a constant and multiples of unknowns.

@@ -6,7 +6,7 @@ ghost use Rattle.mp_values.specs.Words as words;
 use crate::Kind;
 
 /// A word that acts on each symbol of a list.
-#[derive(Clone, Copy, Debug, PartialEq, Eq)]
+#[derive(Clone, Copy)]
 pub enum SymbolCommand {
     /// Each symbol becomes a new tag, up to the end of the group.
     Save,
@@ -15,7 +15,7 @@ pub enum SymbolCommand {
 }
 
 /// A word that says a string.
-#[derive(Clone, Copy, Debug, PartialEq, Eq)]
+#[derive(Clone, Copy)]
 pub enum Speech {
     /// As a line.
     Message,
@@ -26,7 +26,7 @@ pub enum Speech {
 }
 
 /// A word for how a run goes on at an error, which has no effect.
-#[derive(Clone, Copy, Debug, PartialEq, Eq)]
+#[derive(Clone, Copy)]
 pub enum Mode {
     Batch,
     Scroll,
@@ -35,7 +35,7 @@ pub enum Mode {
 }
 
 /// A word that begins a statement.
-#[derive(Clone, Copy, Debug, PartialEq, Eq)]
+#[derive(Clone, Copy)]
 pub enum Command {
     Show,
     Symbols(SymbolCommand),
@@ -48,30 +48,76 @@ pub enum Command {
     Type(Kind),
 }
 
+/// A word that is a primary by itself.
+#[derive(Clone, Copy)]
+pub enum Nullary {
+    True,
+    False,
+    /// The name of the run's main file, without what leads to it and without its last point and what is behind that.
+    Jobname,
+}
+
 /// An operator that stands before a primary.
-#[derive(Clone, Copy, Debug, PartialEq, Eq)]
+#[derive(Clone, Copy)]
 pub enum Unary {
     Plus,
     Minus,
+    Not,
+    /// Whether nothing in a value is open.
+    Known,
+    /// Whether something in a value is open.
+    Unknown,
+    /// Whether a value is of that type. Its word also declares variables.
+    Is(Kind),
 }
 
 /// An operator that joins primaries.
-#[derive(Clone, Copy, Debug, PartialEq, Eq)]
+#[derive(Clone, Copy)]
 pub enum Secondary {
     Times,
     /// The quotient; its word is also the slash of a fraction.
     Over,
+    And,
 }
 
 /// An operator that joins secondaries.
-#[derive(Clone, Copy, Debug, PartialEq, Eq)]
+#[derive(Clone, Copy)]
 pub enum Tertiary {
     Plus,
     Minus,
+    Or,
+}
+
+/// How two values are compared.
+#[derive(Clone, Copy)]
+pub enum Comparison {
+    Less,
+    AtMost,
+    Greater,
+    AtLeast,
+    Equal,
+    Unequal,
+}
+
+/// An operator that joins tertiaries.
+#[derive(Clone, Copy)]
+pub enum Expression {
+    Compare(Comparison),
+    /// One string behind another.
+    Concatenate,
+}
+
+/// A word of a condition.
+#[derive(Clone, Copy)]
+pub enum Condition {
+    If,
+    Elseif,
+    Else,
+    Fi,
 }
 
 /// A word that begins the definition of a macro.
-#[derive(Clone, Copy, Debug, PartialEq, Eq)]
+#[derive(Clone, Copy)]
 pub enum Definition {
     /// Of a symbol.
     Def,
@@ -86,7 +132,7 @@ pub enum Definition {
 }
 
 /// A word for what a parameter of a macro takes.
-#[derive(Clone, Copy, Debug, PartialEq, Eq)]
+#[derive(Clone, Copy)]
 pub enum Parameter {
     Primary,
     Secondary,
@@ -97,7 +143,7 @@ pub enum Parameter {
 }
 
 /// A word that stands, in the macro of a variable, for a part of the name that it is called by.
-#[derive(Clone, Copy, Debug, PartialEq, Eq)]
+#[derive(Clone, Copy)]
 pub enum CalledName {
     /// What stands before the last part.
     Before,
@@ -108,13 +154,21 @@ pub enum CalledName {
 }
 
 /// A word of the language that is built.
-#[derive(Clone, Copy, Debug, PartialEq, Eq)]
+#[derive(Clone, Copy)]
 pub enum Word {
+    Nullary(Nullary),
+    /// An operator that stands before a primary, and nowhere else.
+    Unary(Unary),
     Secondary(Secondary),
-    /// An operator that joins secondaries. Each of them can stand before a primary too.
+    /// An operator that joins secondaries. The signs can stand before a primary too.
     Tertiary(Tertiary),
+    /// An operator that joins tertiaries, but for `=`.
+    Expression(Expression),
     Comma,
     Semicolon,
+    /// It stands behind the heading of a branch.
+    Colon,
+    /// It makes two sides equal where it ends an expression, and compares where it does not.
     Equals,
     Assign,
     LeftBracket,
@@ -123,6 +177,7 @@ pub enum Word {
     Begingroup,
     Endgroup,
     End,
+    Condition(Condition),
     Command(Command),
     Definition(Definition),
     Enddef,
@@ -235,6 +290,19 @@ impl CalledName {
     }
 }
 
+impl Nullary {
+    /// The symbol that means the word at the start of a run.
+    pub fn name(self) -> &'static [u8]
+        ensures { result.now ≡ words.name_of_nullary self }
+    {
+        match self {
+            Nullary::True => b"true",
+            Nullary::False => b"false",
+            Nullary::Jobname => b"jobname",
+        }
+    }
+}
+
 impl Unary {
     /// The symbol that means the operator at the start of a run.
     pub fn name(self) -> &'static [u8]
@@ -243,6 +311,10 @@ impl Unary {
         match self {
             Unary::Plus => b"+",
             Unary::Minus => b"-",
+            Unary::Not => b"not",
+            Unary::Known => b"known",
+            Unary::Unknown => b"unknown",
+            Unary::Is(kind) => kind.name(),
         }
     }
 }
@@ -255,6 +327,7 @@ impl Secondary {
         match self {
             Secondary::Times => b"*",
             Secondary::Over => b"/",
+            Secondary::And => b"and",
         }
     }
 }
@@ -267,13 +340,56 @@ impl Tertiary {
         match self {
             Tertiary::Plus => b"+",
             Tertiary::Minus => b"-",
+            Tertiary::Or => b"or",
+        }
+    }
+}
+
+impl Comparison {
+    /// The symbol that means the operator at the start of a run.
+    pub fn name(self) -> &'static [u8]
+        ensures { result.now ≡ words.name_of_comparison self }
+    {
+        match self {
+            Comparison::Less => b"<",
+            Comparison::AtMost => b"<=",
+            Comparison::Greater => b">",
+            Comparison::AtLeast => b">=",
+            Comparison::Equal => b"=",
+            Comparison::Unequal => b"<>",
+        }
+    }
+}
+
+impl Expression {
+    /// The symbol that means the operator at the start of a run.
+    pub fn name(self) -> &'static [u8]
+        ensures { result.now ≡ words.name_of_expression self }
+    {
+        match self {
+            Expression::Compare(comparison) => comparison.name(),
+            Expression::Concatenate => b"&",
+        }
+    }
+}
+
+impl Condition {
+    /// The symbol that means the word at the start of a run.
+    pub fn name(self) -> &'static [u8]
+        ensures { result.now ≡ words.name_of_condition self }
+    {
+        match self {
+            Condition::If => b"if",
+            Condition::Elseif => b"elseif",
+            Condition::Else => b"else",
+            Condition::Fi => b"fi",
         }
     }
 }
 
 impl Word {
     /// Each word once, in the order in which they get their numbers.
-    pub const ALL: [Word; 47] = [
+    pub const ALL: [Word; 66] = [
         Word::Begingroup,
         Word::Endgroup,
         Word::Tertiary(Tertiary::Plus),
@@ -321,6 +437,25 @@ impl Word {
         Word::CalledName(CalledName::Last),
         Word::CalledName(CalledName::Behind),
         Word::Backslash,
+        Word::Nullary(Nullary::True),
+        Word::Nullary(Nullary::False),
+        Word::Nullary(Nullary::Jobname),
+        Word::Unary(Unary::Not),
+        Word::Unary(Unary::Known),
+        Word::Unary(Unary::Unknown),
+        Word::Secondary(Secondary::And),
+        Word::Tertiary(Tertiary::Or),
+        Word::Expression(Expression::Compare(Comparison::Less)),
+        Word::Expression(Expression::Compare(Comparison::AtMost)),
+        Word::Expression(Expression::Compare(Comparison::Greater)),
+        Word::Expression(Expression::Compare(Comparison::AtLeast)),
+        Word::Expression(Expression::Compare(Comparison::Unequal)),
+        Word::Expression(Expression::Concatenate),
+        Word::Colon,
+        Word::Condition(Condition::If),
+        Word::Condition(Condition::Elseif),
+        Word::Condition(Condition::Else),
+        Word::Condition(Condition::Fi),
     ];
 
     /// The symbol that means the word at the start of a run.
@@ -328,10 +463,14 @@ impl Word {
         ensures { result.now ≡ words.name_of_word self }
     {
         match self {
+            Word::Nullary(word) => word.name(),
+            Word::Unary(operator) => operator.name(),
             Word::Secondary(operator) => operator.name(),
             Word::Tertiary(operator) => operator.name(),
+            Word::Expression(operator) => operator.name(),
             Word::Comma => b",",
             Word::Semicolon => b";",
+            Word::Colon => b":",
             Word::Equals => b"=",
             Word::Assign => b":=",
             Word::LeftBracket => b"[",
@@ -340,6 +479,7 @@ impl Word {
             Word::Begingroup => b"begingroup",
             Word::Endgroup => b"endgroup",
             Word::End => b"end",
+            Word::Condition(word) => word.name(),
             Word::Command(command) => command.name(),
             Word::Definition(definition) => definition.name(),
             Word::Enddef => b"enddef",
@@ -355,8 +495,10 @@ impl Word {
         ensures { result ≡ words.unary_of self }
     {
         match self {
+            Word::Unary(operator) => Some(operator),
             Word::Tertiary(Tertiary::Plus) => Some(Unary::Plus),
             Word::Tertiary(Tertiary::Minus) => Some(Unary::Minus),
+            Word::Command(Command::Type(kind)) => Some(Unary::Is(kind)),
             _ => None,
         }
     }

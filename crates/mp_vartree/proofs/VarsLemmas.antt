@@ -10,7 +10,7 @@ use Rattle.std.specs.FinMap.{FinMap, entries, get, insert, retain_keys, get-entr
 use Rattle.mp_vartree.specs.Names.{part_cmp, shape_cmp, name_cmp, pattern_cmp, full_pattern, pattern_of, is_meant, begins, is_of_root}
 use Rattle.mp_vartree.specs.Declarations.{kind_in, macro_in, first_macro, is_below_macro}
 use Rattle.mp_vartree.specs.Variables.{Variables, no_variables, declared_at, macro_at, variable_at, with_declared, without, with_variable, forget, macro_of, type_of, define, store_as, wanted_kind}
-use Rattle.mp_vartree.specs.Kinds.{kind_of, is_kind}
+use Rattle.mp_values.specs.Kinds.{kind_of, is_kind}
 use Rattle.mp_values.specs.declared.value.Value.{Value}
 use Rattle.mp_vartree.specs.Layout.Tags.{declarations_in, variables_in}
 use Rattle.mp_vartree.specs.declared.names.Part.{Part}

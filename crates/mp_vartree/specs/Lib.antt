@@ -1,5 +1,5 @@
 pub mod Names
-pub mod Kinds
+pub mod Unknowns
 pub mod Serials
 pub mod Declarations
 pub mod Variables

@@ -17,7 +17,8 @@ use Rattle.mp_vartree.specs.declared.entry.Declared.{Declared}
 use Rattle.mp_vartree.specs.declared.entry.Declared.TheVariants as declared
 use Rattle.mp_vartree.specs.declared.entry.Variable.{Variable}
 use Rattle.mp_vartree.specs.Names.{name_cmp, pattern_cmp, full_name, full_pattern, pattern_of, begins, is_meant, is_of_root}
-use Rattle.mp_vartree.specs.Kinds.{kind_of, is_kind, unknowns_in}
+use Rattle.mp_values.specs.Kinds.{kind_of, is_kind}
+use Rattle.mp_vartree.specs.Unknowns.{unknowns_in}
 use Rattle.mp_vartree.specs.Declarations.{kind_in, macro_in, first_macro, is_below_macro}
 use Rattle.mp_vartree.specs.Serials.{increasing}
 

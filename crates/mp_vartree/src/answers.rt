@@ -4,7 +4,7 @@ use mp_scaled::Shared;
 use mp_values::{Macro, Value};
 
 /// What a name stands for.
-#[derive(Debug, Drop)]
+#[derive(Drop)]
 pub enum Found {
     /// Nothing: no macro names a beginning of it, and the variable has no value.
     Nothing,
@@ -15,9 +15,9 @@ pub enum Found {
 }
 
 /// The name is strictly below that of a macro.
-#[derive(Clone, Copy, Debug, PartialEq, Eq)]
+#[derive(Clone, Copy, PartialEq, Eq)]
 pub struct BadDeclaration;
 
 /// The value is not of the variable's type.
-#[derive(Clone, Copy, Debug, PartialEq, Eq)]
+#[derive(Clone, Copy, PartialEq, Eq)]
 pub struct WrongType;

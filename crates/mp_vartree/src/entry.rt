@@ -4,7 +4,7 @@ use mp_scaled::Shared;
 use mp_values::{Kind, Macro, Value};
 
 /// What a pattern was declared to be.
-#[derive(Debug, Drop)]
+#[derive(Drop)]
 pub enum Declared {
     /// Variables of that type.
     Typed(Kind),
@@ -13,7 +13,7 @@ pub enum Declared {
 }
 
 /// A variable that has a value.
-#[derive(Debug, Drop)]
+#[derive(Drop)]
 pub struct Variable {
     pub value: Value,
     /// The unknowns in the value were made for this variable.

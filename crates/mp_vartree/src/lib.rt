@@ -9,7 +9,6 @@ mod answers;
 mod declarations;
 mod entry;
 mod group;
-mod kinds;
 mod laws;
 mod name_map;
 mod names;
@@ -21,7 +20,6 @@ mod vars;
 
 pub use answers::{BadDeclaration, Found, WrongType};
 pub use entry::Variable;
-pub use kinds::{has_kind, have_one_kind};
 pub use laws::{one_pattern_matches, variables_are_a_map};
 pub use names::{PART_LIMIT, Part, Pattern, Shape, Suffix};
 pub use serials::Serials;

@@ -6,7 +6,7 @@ use mp_scaled::Listing;
 pub const PART_LIMIT: u32 = 50;
 
 /// A part of a full name.
-#[derive(Clone, Copy, Debug, PartialEq, Eq, PartialOrd, Ord)]
+#[derive(Clone, Copy, PartialEq, Eq, PartialOrd, Ord)]
 pub enum Part {
     /// A symbol, by its number.
     Sym(u32),
@@ -15,7 +15,7 @@ pub enum Part {
 }
 
 /// A part of a pattern.
-#[derive(Clone, Copy, Debug, PartialEq, Eq, PartialOrd, Ord)]
+#[derive(Clone, Copy, PartialEq, Eq, PartialOrd, Ord)]
 pub enum Shape {
     /// That symbol.
     Sym(u32),

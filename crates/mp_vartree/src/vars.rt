@@ -2,19 +2,18 @@
 
 ghost use Rattle.std.specs.Prelude.{◌≡◌, ◌↔◌, true, false, Some, None, IfOk, OnOk, OnErr, IsErr};
 ghost use Rattle.std.specs.Option.{option_map};
-ghost use Rattle.mp_vartree.specs.Kinds.{kind_of, is_kind};
+ghost use Rattle.mp_values.specs.Kinds.{kind_of, is_kind};
 ghost use Rattle.mp_vartree.specs.Declarations.{is_below_macro};
 ghost use Rattle.mp_vartree.specs.Variables as variables;
 ghost use Rattle.mp_vartree.specs.Variables.{no_variables, with_new_root, macro_at, wanted_kind, forget};
 ghost use Rattle.mp_vartree.specs.Laws.{AreOnce};
 
 use crate::entry::{Declared, Variable};
-use crate::kinds::has_kind;
 use crate::serials::{Serials, add_made, listed};
 use crate::tag::{Tag, add_tag};
 use crate::{BadDeclaration, Found, Part, Shape, WrongType};
 use mp_scaled::{NoMemory, Shared};
-use mp_values::{Kind, Macro, Value};
+use mp_values::{Kind, Macro, Value, has_kind};
 use std::alloc::Global;
 use std::collections::{BTreeMap, BTreeSet};
 use std::marker::Model;

@@ -1,10 +1,12 @@
 //! Rows of sources and command lines with what they give, by the objects in memory. The tables stand in the modules.
 
 mod arguments;
+mod conditions;
 mod idioms;
 mod limits;
 mod macros;
 mod names;
+mod operations;
 mod operators;
 mod outside;
 mod suffixes;

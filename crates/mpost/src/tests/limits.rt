@@ -5,7 +5,7 @@ use std::alloc::{AllocError, Global};
 use std::test::Fail;
 
 /// A source text, and how many items are taken of it.
-const STEPS: [(&str, u64); 17] = [
+const STEPS: [(&str, u64); 27] = [
     ("show 1/3+2;end", 8),
     ("", 1),
     ("\n", 2),
@@ -23,6 +23,16 @@ const STEPS: [(&str, u64); 17] = [
     ("primarydef a o b=a enddef;show 1 o 2;end", 16),
     ("vardef z@#=1 enddef;show z.a;end", 16),
     ("vardef z@#=1 enddef;show z[1,2];end", 16),
+    ("show if true:1 else:2 fi;end", 11),
+    ("if false:show 1;fi end", 8),
+    ("if true:\nshow 1;\nfi\n", 11),
+    ("x=1 if known x:+1 fi;show x;end", 15),
+    ("if false: if true: fi else: end", 10),
+    ("if false:elseif true:else:fi end", 10),
+    ("if if true:false fi:fi end", 9),
+    ("def f primary a=a enddef;show f if true:1 fi;end", 19),
+    ("show 1<2=true;end", 8),
+    ("tertiarydef a o b=a enddef;show 1 o 2=1;end", 18),
 ];
 
 #[test]
@@ -180,6 +190,84 @@ const LONG_CALLS: [Repeated; 13] = [
     ),
 ];
 
+/// The same, of conditions and operators.
+const LONG_CONDITIONS: [Repeated; 20] = [
+    ("show 1;", "if true:", 5000, "show 2;", ">> 1\n>> 2\n"),
+    ("", "if true:", 5000, "fi fi show 1;", ">> 1\n"),
+    ("if false:", "x ", 30000, "fi show 1;", ">> 1\n"),
+    ("if false:", "if fi ", 10000, "fi show 1;", ">> 1\n"),
+    (
+        "if false:",
+        "if ",
+        20000,
+        "fi show 1;",
+        "a.mp:1: error 6 FileEndedInText\n",
+    ),
+    (
+        "if false:",
+        "elseif false:",
+        4000,
+        "else:show 1;fi",
+        ">> 1\n",
+    ),
+    (
+        "if true:show 1;",
+        "elseif 1:",
+        7000,
+        "else:show 2;fi",
+        ">> 1\n",
+    ),
+    ("show 0", " if true:+1 fi", 4000, ";", ">> 4000\n"),
+    (
+        "",
+        "if ",
+        99,
+        "true:",
+        "a.mp:1: error 7 Unexpected \"primary\" \"end of text\"\n",
+    ),
+    (
+        "",
+        "if ",
+        100,
+        "true:",
+        "a.mp:1: error 28 Limit Nesting 100\n",
+    ),
+    (
+        "def f(expr a)=enddef; ",
+        "f(if ",
+        50,
+        "true:",
+        "a.mp:1: error 28 Limit Nesting 100\n",
+    ),
+    ("show ", "not ", 99, "true;", ">> false\n"),
+    (
+        "show ",
+        "not ",
+        100,
+        "true;",
+        "a.mp:1: error 28 Limit Nesting 100\n",
+    ),
+    ("show ", "known ", 99, "x;", ">> true\n"),
+    ("show true", " and true", 7000, ";", ">> true\n"),
+    ("show false", " or false", 7000, ";", ">> false\n"),
+    ("show true", "=true", 13000, ";", ">> true\n"),
+    ("show \"b\"", "&\"a\"", 9000, ";", "aaaa\"\n"),
+    (
+        "string s;s=\"a\";",
+        "s:=s&s;",
+        16,
+        "show known (s&\"\");show s&\"a\";",
+        ">> true\na.mp:1: error 28 Limit Text 65536\n",
+    ),
+    (
+        "string s;s=\"a\";",
+        "s:=s&s;",
+        17,
+        "show 1;",
+        "a.mp:1: error 28 Limit Text 65536\n",
+    ),
+];
+
 fn repeated(
     alloc: Global,
     first: &str,
@@ -207,6 +295,19 @@ fn long_texts_end_so(rt: HostRuntime) -> Result<(), Fail> {
 #[test]
 fn long_calls_end_so(rt: HostRuntime) -> Result<(), Fail> {
     for (first, piece, times, last, wanted) in LONG_CALLS {
+        let text = repeated(rt.alloc(), first, piece, times, last)?;
+        let left = run_text(rt.alloc(), text.as_str())?;
+        assert!(rt;
+            left.written.as_slice().ends_with(wanted.as_bytes()),
+            "{first}{piece}"
+        );
+    }
+    Ok(())
+}
+
+#[test]
+fn long_conditions_end_so(rt: HostRuntime) -> Result<(), Fail> {
+    for (first, piece, times, last, wanted) in LONG_CONDITIONS {
         let text = repeated(rt.alloc(), first, piece, times, last)?;
         let left = run_text(rt.alloc(), text.as_str())?;
         assert!(rt;

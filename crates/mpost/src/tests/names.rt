@@ -41,11 +41,7 @@ const NAMES: [(&str, &str, u8); 32] = [
         "a.mp:1: error 20 BadDeclaration\n",
         1,
     ),
-    (
-        "show string x;\n",
-        "a.mp:1: error 7 Unexpected \"primary\" \"string\"\n",
-        1,
-    ),
+    ("show string x;\n", ">> false\n", 0),
     (
         "begingroup save x; x1=y; newinternal x; endgroup; show y;\n",
         ">> x1\n",

@@ -18,4 +18,4 @@ pub returns-clause-rest : goal.returns-clause-rest
 returns-clause-rest c =
     let now = c.unname_all.new.system.unknowns in
     let same = ap (λ (s : Solver). s.unknowns.states) c.unname_all.ensures ∙ states_without_names c.args.serials.now c.self.inside.system.unknowns in
-    rw (← c.self.view_is) (with_states c.self.inside.symbols c.self.inside.variables c.self.inside.slots.items (map event_of c.self.inside.events.items) c.self.inside.lines now c.self.inside.system.unknowns same)
+    rw (← c.self.view_is) (with_states c.self.inside.symbols c.self.inside.variables c.self.inside.slots.items (map event_of c.self.inside.events.items) c.self.inside.lines c.self.inside.job now c.self.inside.system.unknowns same)

@@ -1,6 +1,6 @@
 use Rattle.std.proofs.Common.{pos, get_or, SFits, w64, sym, ◌∙◌, arith, rules}
 use Rattle.std.proofs.lemmas.Int.{to_z-of_z}
-use Rattle.mp_acts.proofs.ReachLemmas.{reach_each}
+use Rattle.mp_ops.proofs.ReachLemmas.{reach_each}
 use Rattle.mp_acts.proofs.TextLemmas.{terms_step, terms_end}
 use Rattle.mp_acts.proofs.state.State.push_terms.Goals as goal
 

@@ -5,10 +5,11 @@ use Rattle.mp_solver.specs.States.{Unknowns}
 use Rattle.mp_values.specs.Outcome.{in_state, error_of}
 use Rattle.mp_acts.specs.State.{State}
 use Rattle.mp_acts.specs.Events.{event_of}
-use Rattle.mp_acts.specs.Operands.{or_refused}
+use Rattle.mp_ops.specs.Operands.{or_refused}
+use Rattle.mp_acts.specs.Operators.{from_store, store_of}
 use Rattle.mp_acts.specs.declared.event.Event.TheVariants as event
 use Rattle.mp_acts.proofs.EquationLemmas.{with_equation, prepared_err, residual_is, outcome_is, residual_within, as_many_after, answer_is}
-use Rattle.mp_acts.proofs.ReachLemmas.{is_over}
+use Rattle.mp_ops.proofs.ReachLemmas.{is_over}
 use Rattle.mp_acts.proofs.WithinLemmas.{with_event, as_many_within}
 use Rattle.mp_acts.proofs.state.State.take.Goals.{in-Accepted, in_default}
 use Rattle.mp_acts.proofs.state.State.take.Goals as goal
@@ -29,8 +30,9 @@ returns-in_err-ready-2-clause-err c =
       unknowns = unknowns;
       events = map event_of c.self.inside.events.items;
       lines = c.self.inside.lines;
+      job = c.self.inside.job;
     } in
-    rw (p.1, ← c.self.view_is) (λ _. ap (λ r. in_state (or_refused r) state) refused ∙ ap (λ made. Err (error_of made, state)) (sym p.2))
+    rw (p.1, ← c.self.view_is) (λ _. ap (λ r. from_store (in_state (or_refused r) (store_of state)) state) refused ∙ ap (λ made. Err (error_of made, state)) (sym p.2))
 
 pub invariant_of-self-in-Accepted : goal.invariant_of-self-in-Accepted
 invariant_of-self-in-Accepted c =

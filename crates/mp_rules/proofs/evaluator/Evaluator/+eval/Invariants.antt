@@ -69,10 +69,10 @@ abbrev pub decreases-tertiary : goal.decreases-tertiary
 decreases-tertiary l = 2 * measure Tertiary l.self.now
 
 abbrev pub decreases-expression_rest : goal.decreases-expression_rest
-decreases-expression_rest l = 2 * measure (ExpressionRest l.left) l.self.now
+decreases-expression_rest l = 2 * measure (ExpressionRest l.left l.equals) l.self.now
 
 abbrev pub decreases-expression_from : goal.decreases-expression_from
-decreases-expression_from l = 2 * measure (ExpressionFrom l.first) l.self.now
+decreases-expression_from l = 2 * measure (ExpressionFrom l.first l.equals) l.self.now
 
 abbrev pub decreases-expression : goal.decreases-expression
 decreases-expression l = 2 * measure Expression l.self.now
@@ -103,6 +103,9 @@ decreases-next_expression l = 2 * (64 * coming l.self.now + 11) + 1
 
 abbrev pub decreases-next_secondary : goal.decreases-next_secondary
 decreases-next_secondary l = 2 * (64 * coming l.self.now + 6) + 1
+
+abbrev pub decreases-next_tertiary : goal.decreases-next_tertiary
+decreases-next_tertiary l = 2 * (64 * coming l.self.now + 8) + 1
 
 abbrev pub decreases-number : goal.decreases-number
 decreases-number l = 2 * (64 * coming l.self.now + 6) + 1
@@ -142,6 +145,9 @@ decreases-string_primary l = 2 * (64 * coming l.self.now) + 1
 
 abbrev pub decreases-value_primary : goal.decreases-value_primary
 decreases-value_primary l = 2 * (64 * coming l.self.now) + 1
+
+abbrev pub decreases-constant : goal.decreases-constant
+decreases-constant l = 2 * (64 * coming l.self.now) + 1
 
 abbrev pub decreases-internal : goal.decreases-internal
 decreases-internal l = 2 * (64 * coming l.self.now) + 1
@@ -195,7 +201,7 @@ decreases-tertiary_rest-secondaries l = left l.self
 
 abbrev pub invariant-expression_rest-tertiaries : goal.invariant-expression_rest-tertiaries
 invariant-expression_rest-tertiaries l = record {
-  leads : the (ExpressionRest l.fn.left) l.fn.self ≡ the (ExpressionRest l.so_far) l.self;
+  leads : the (ExpressionRest l.fn.left l.fn.equals) l.fn.self ≡ the (ExpressionRest l.so_far l.fn.equals) l.self;
   went : left l.self ≤ left l.fn.self;
   kept : l.self.expander.budget ≡ l.fn.self.expander.budget;
   files : l.self.sources ≡ l.fn.self.sources;

@@ -1,7 +1,7 @@
 use Rattle.std.proofs.Common.{Some, refl, ap, sym, ◌∙◌}
 use Rattle.std.specs.Option.{option_copied_mut, unwrap_or}
 use Rattle.mp_values.specs.declared.value.Kind.TheVariants.{Numeric}
-use Rattle.mp_vartree.specs.Kinds.{kind_of, is_kind}
+use Rattle.mp_values.specs.Kinds.{kind_of, is_kind}
 use Rattle.mp_vartree.specs.declared.tag.Tag.{Tag}
 use Rattle.mp_vartree.proofs.ResultLemmas.{err_always}
 use Rattle.mp_vartree.proofs.VarsLemmas.{seen, stored, untouched, type_in, same_seen, written_tag, store_refused, store_accepted}
