@@ -1,2 +1,4 @@
 pub mod Outcomes
 pub mod Delivering
+pub mod NumberLemmas
+pub mod LineLemmas

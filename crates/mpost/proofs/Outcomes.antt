@@ -62,14 +62,15 @@ ran_as course line run at report before now f r written = record {
   written = rw (r.sources, ← f.lines, ← f.figures, ← f.end) written;
 }
 
-pub ran_by : (called : List ℕ) (line : CommandLine) (run : Run) (at : Delivered) (report : Report) (before now : Outside)
-    → called ≡ line.name → Follows run (run_of run.sources [] called line.budget) before.files now.files → Reports run line at report
+pub ran_by : (called : List ℕ) (budget : ℕ) (line : CommandLine) (run : Run) (at : Delivered) (report : Report) (before now : Outside)
+    → called ≡ line.name → budget ≡ line.budget → Follows run (run_of run.sources [] called budget) before.files now.files → Reports run line at report
     → DeliverGives run.lines run.figures (line_of run.sources (reported run.end)) (outlets before) (outlets now) at
     → ComesOfRun line report before now
-ran_by called line run at report before now is f r written =
+ran_by called budget line run at report before now is allows f r written =
     let P : List Kept → Type 0 = λ s. Ran (run_of s [] line.name line.budget) line at report before now in
-    let Q : List ℕ → Type 0 = λ n. Follows run (run_of run.sources [] n line.budget) before.files now.files in
-    ran at (subst P (sym r.sources) (ran_as (run_of run.sources [] line.name line.budget) line run at report before now (subst Q is f) r written))
+    let Q : List ℕ → Type 0 = λ n. Follows run (run_of run.sources [] n budget) before.files now.files in
+    let R : ℕ → Type 0 = λ n. Follows run (run_of run.sources [] line.name n) before.files now.files in
+    ran at (subst P (sym r.sources) (ran_as (run_of run.sources [] line.name line.budget) line run at report before now (subst R allows (subst Q is f)) r written))
 
 after_unread : (at : Delivered) → IsReadFault (end_after at ReadFault)
 after_unread delivered.All = tt

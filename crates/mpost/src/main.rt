@@ -1,4 +1,4 @@
-//! The program: `mpost --bare FILE` runs a MetaPost source and writes what it shows.
+//! The program: `mpost --bare [--steps N] [--seed N] FILE` runs a MetaPost source and writes what it shows.
 //!
 //! [`top::mpost_main`] carries the headline: what is written is the meaning of the sources that were read.
 //! [`words`] reads the command line, the evaluator below runs the file, and [`deliver`] writes what came of it. The

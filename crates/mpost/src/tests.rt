@@ -29,9 +29,11 @@ fn sources(alloc: Global, name: &[u8], text: &[u8]) -> Result<Sources, NoMemory>
     Ok(sources)
 }
 
+/// The words of a line. An empty word stands in it as `_`.
 fn words(alloc: Global, line: &str) -> Result<Vec<String>, AllocError> {
     let mut words = Vec::new(alloc);
     for word in line.split_whitespace() {
+        let word = if word == "_" { "" } else { word };
         words.push(String::from_str(alloc, word)?)?;
     }
     Ok(words)
@@ -43,6 +45,8 @@ struct Left {
     written: Bytes,
     status: u8,
     steps: u64,
+    budget: u64,
+    seed: u32,
     fetches: usize,
 }
 
@@ -68,6 +72,8 @@ fn run_with(
         written: Bytes::copy_of(alloc, sink.as_slice())?,
         status: report.status,
         steps: report.steps,
+        budget: report.budget,
+        seed: report.seed,
         fetches: files.asked().len(),
     })
 }

@@ -4,13 +4,13 @@ ghost use Rattle.std.specs.Prelude.{◌≡◌, ◌≢◌, ◌≤◌, ◌<◌, �
 ghost use Rattle.std.specs.Bool.{MatchBool};
 ghost use Rattle.std.specs.String.{string_bytes};
 ghost use Rattle.mp_files.specs.Counts.{Rose};
-ghost use Rattle.mpost.specs.CommandWords.{words_of, run_of_file};
+ghost use Rattle.mpost.specs.CommandWords.{words_of, command_line};
 ghost use Rattle.mp_eval.specs.Gives.{AreGiven};
 ghost use Rattle.mpost.specs.Headline as headline;
 ghost use Rattle.mpost.specs.Headline.{Outside, ComesOf, ComesOfRun, NoneRose, IsOwnEnd, WritesCounted, IsReadFault, Says, line_of, name_of_source};
 
 use crate::deliver::{Delivered, deliver, write};
-use crate::words::{Command, DEFAULT_BUDGET, name_of_file, read_words};
+use crate::words::{Command, Options, name_of_file, read_words};
 use itoa::Buffer;
 use mp_eval::{Run, RunEnd, run};
 use mp_files::{Files, Kept, Shelf, Sink, Sources, Written};
@@ -190,8 +190,9 @@ fn empty_report(alloc: Global, end: End) -> Report
     }
 }
 
-fn report_of(sources: Sources, steps: u64, end: End) -> Report
-    ensures { result ≡ record { status = headline.status_of end; sources = sources; main = min 1 (length sources); seed = 0; budget = DEFAULT_BUDGET; steps = steps; end = end } }
+fn report_of(options: Options, sources: Sources, steps: u64, end: End) -> Report
+    ensures { let line = command_line options [] in
+        result ≡ record { status = headline.status_of end; sources = sources; main = min 1 (length sources); seed = line.seed; budget = line.budget; steps = steps; end = end } }
 {
     let status = status_of(&end);
     let main = if sources.as_slice().is_empty() { 0 } else { 1 };
@@ -199,8 +200,8 @@ fn report_of(sources: Sources, steps: u64, end: End) -> Report
         status,
         sources,
         main,
-        seed: 0,
-        budget: DEFAULT_BUDGET,
+        seed: options.seed(),
+        budget: options.budget(),
         steps,
         end,
     }
@@ -248,7 +249,9 @@ pub fn mpost_main<F: Files, S: Shelf, O: Sink>(
 {
     match read_words(words) {
         Command::Refused(word) => refuse(alloc, word, out),
-        Command::Accepted(file) => run_and_write(alloc, file, files, shelf, out),
+        Command::Accepted(options, file) => {
+            run_and_write(alloc, options, file, files, shelf, out)
+        }
     }
 }
 
@@ -271,6 +274,7 @@ fn refuse<O: Sink>(alloc: Global, word: u32, out: &mut O) -> Report
 
 fn run_and_write<F: Files, S: Shelf, O: Sink>(
     alloc: Global,
+    options: Options,
     file: &[u8],
     files: &mut F,
     shelf: &mut S,
@@ -283,7 +287,7 @@ fn run_and_write<F: Files, S: Shelf, O: Sink>(
     ensures spent { result.end ≡ End.OutOfSteps → result.steps ≡ result.budget }
     ensures headline { let before : Outside = record { files = F.seen files.old; shelf = S.seen shelf.old; out = O.seen out.old } in
         let now : Outside = record { files = F.seen files.new; shelf = S.seen shelf.new; out = O.seen out.new } in
-        ComesOfRun (run_of_file file.now) result before now }
+        ComesOfRun (command_line options file.now) result before now }
 {
     let Ok(name) = name_of_file(alloc, file) else {
         return say(alloc, MEMORY_LINE, End::NoMemory, out);
@@ -296,7 +300,14 @@ fn run_and_write<F: Files, S: Shelf, O: Sink>(
         unknowns: _,
         equations: _,
         end,
-    } = run(alloc, &[], name.as_slice(), DEFAULT_BUDGET, 0, files);
+    } = run(
+        alloc,
+        &[],
+        name.as_slice(),
+        options.budget(),
+        options.seed(),
+        files,
+    );
     if is_starved(&end) {
         return say(alloc, MEMORY_LINE, End::NoMemory, out);
     }
@@ -311,5 +322,5 @@ fn run_and_write<F: Files, S: Shelf, O: Sink>(
         shelf,
         out,
     );
-    report_of(sources, steps, end_after(at, own))
+    report_of(options, sources, steps, end_after(at, own))
 }

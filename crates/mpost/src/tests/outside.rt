@@ -9,41 +9,162 @@ use std::alloc::Global;
 use std::process::Abort;
 use std::test::Fail;
 
-/// A command line, what is written and the status.
-const LINES: [(&str, &str, u8); 9] = [
-    ("--bare a", ">> 1\n", 0),
+/// A command line that is accepted, and the steps and the seed that it asks for.
+const ACCEPTED: [(&str, u64, u32); 18] = [
+    ("--bare a.mp", 10_000_000, 0),
+    ("--bare a", 10_000_000, 0),
+    ("--bare --steps 9 a.mp", 9, 0),
+    ("--steps 9 --bare a.mp", 9, 0),
+    ("--bare --seed 8 a.mp", 10_000_000, 8),
+    ("--seed 8 --bare a.mp", 10_000_000, 8),
+    ("--bare --steps 9 --seed 8 a.mp", 9, 8),
+    ("--bare --seed 8 --steps 9 a.mp", 9, 8),
+    ("--steps 9 --bare --seed 8 a.mp", 9, 8),
+    ("--steps 9 --seed 8 --bare a.mp", 9, 8),
+    ("--seed 8 --bare --steps 9 a.mp", 9, 8),
+    ("--seed 8 --steps 9 --bare a.mp", 9, 8),
+    ("--bare --steps 0010 a.mp", 10, 0),
+    ("--bare --steps 0000000004 a.mp", 4, 0),
+    ("--bare --steps 1000000000 a.mp", 1_000_000_000, 0),
+    ("--bare --seed 0 a.mp", 10_000_000, 0),
+    ("--bare --seed 0000000000 a.mp", 10_000_000, 0),
+    ("--bare --seed 0268435455 a.mp", 10_000_000, 268_435_455),
+];
+
+#[test]
+fn options_ask_for_steps_and_a_seed(rt: HostRuntime) -> Result<(), Fail> {
+    for (line, budget, seed) in &ACCEPTED {
+        let left = run_with(rt.alloc(), line, "show 1;end", &[], &[])?;
+        assert_eq!(rt; left.written.as_slice(), b">> 1\n".as_slice(), "{line}");
+        assert_eq!(rt;
+            (left.status, left.budget, left.seed),
+            (0, *budget, *seed),
+            "{line}"
+        );
+    }
+    Ok(())
+}
+
+/// A command line that is refused, and the word.
+const REFUSED: [(&str, u32); 59] = [
+    // a word is missing
+    ("", 1),
+    ("--bare", 2),
+    ("--steps", 2),
+    ("--seed", 2),
+    ("--steps 9", 3),
+    ("--bare --steps", 3),
+    ("--bare --seed", 3),
+    ("--bare --steps 9 --seed 8", 6),
+    // no `--bare`
+    ("a.mp", 1),
+    ("--steps 9 a.mp", 3),
+    ("--seed 8 a.mp", 3),
+    ("--steps 9 --seed 8 a.mp", 5),
+    // an option stands twice, or is none
+    ("--bare --bare a.mp", 2),
+    ("--steps 9 --steps 9 --bare a.mp", 3),
+    ("--seed 8 --bare --seed 8 a.mp", 4),
+    ("--bare --steps 9 --seed 8 --bare a.mp", 6),
+    ("--help", 1),
+    ("--stats --bare a.mp", 1),
+    ("--bare --stats a.mp", 2),
+    ("--bare --gen 2", 2),
+    ("--bare --paints a.mp", 2),
+    ("--bare --svg a.mp", 2),
+    ("--Bare a.mp", 1),
+    ("-bare a.mp", 1),
+    ("--steps=9 --bare a.mp", 1),
+    ("--bare -- a.mp", 2),
+    // no file
+    ("_", 1),
+    ("--bare _", 2),
+    ("--bare _ a.mp", 2),
+    ("--bare -", 2),
+    ("--bare -a", 2),
+    ("--bare \u{e9}", 2),
+    // behind the file
+    ("--bare a.mp b.mp", 3),
+    ("--bare a.mp _", 3),
+    ("--bare a.mp --bare", 3),
+    ("--bare a.mp --steps 9", 3),
+    ("--bare a.mp --seed 8", 3),
+    ("--bare --steps 9 --seed 8 a.mp b.mp", 7),
+    // no number
+    ("--steps a.mp", 2),
+    ("--bare --steps --seed 8 a.mp", 3),
+    ("--bare --steps _ a.mp", 3),
+    ("--bare --steps +9 a.mp", 3),
+    ("--bare --steps -9 a.mp", 3),
+    ("--bare --steps 9. a.mp", 3),
+    ("--bare --steps 9x a.mp", 3),
+    ("--bare --steps \u{664} a.mp", 3),
+    ("--bare --seed + a.mp", 3),
+    ("--bare --seed -1 a.mp", 3),
+    // of 11 digits
+    ("--bare --steps 00000000009 a.mp", 3),
+    ("--bare --seed 00000000000 a.mp", 3),
+    // too small or too great
+    ("--steps 0 a.mp", 2),
+    ("--bare --steps 0000000000 a.mp", 3),
+    ("--bare --steps 1000000001 a.mp", 3),
+    ("--bare --steps 4294967305 a.mp", 3),
+    ("--bare --steps 9999999999 a.mp", 3),
+    ("--bare --seed 268435456 a.mp", 3),
+    ("--bare --seed 4294967296 a.mp", 3),
+    ("--bare --seed 9999999999 a.mp", 3),
+    ("--seed 268435456 --steps 0 a.mp", 2),
+];
+
+#[test]
+fn words_are_refused(rt: HostRuntime) -> Result<(), Fail> {
+    let alloc = rt.alloc();
+    for (line, word) in &REFUSED {
+        let left = run_with(alloc, line, "show 1;end", &[], &[])?;
+        let wanted = format!(in alloc; "mpost: usage: word {word}\n")?;
+        assert_eq!(rt; left.written.as_slice(), wanted.as_bytes(), "{line}");
+        assert_eq!(rt; left.status, 2, "{line}");
+        assert_eq!(rt;
+            (left.steps, left.budget, left.seed, left.fetches),
+            (0, 0, 0, 0),
+            "{line}"
+        );
+    }
+    Ok(())
+}
+
+/// A command line, what is written, the status and the steps.
+const LINES: [(&str, &str, u8, u64); 6] = [
     (
         "--bare none",
         "mpost:0: error 4 NoSuchFile \"none.mp\"\n",
         1,
+        0,
     ),
     (
         "--bare x.y/none",
         "mpost:0: error 4 NoSuchFile \"x.y/none.mp\"\n",
         1,
+        0,
     ),
-    ("", "mpost: usage: word 1\n", 2),
-    ("a.mp", "mpost: usage: word 1\n", 2),
-    ("--bare", "mpost: usage: word 2\n", 2),
-    ("--bare -a", "mpost: usage: word 2\n", 2),
-    ("--bare \u{e9}", "mpost: usage: word 2\n", 2),
-    ("--bare a.mp b", "mpost: usage: word 3\n", 2),
+    ("--bare --steps 5 a.mp", ">> 1\n", 0, 4),
+    ("--bare --steps 4 a.mp", ">> 1\n", 0, 4),
+    ("--bare --steps 3 a.mp", ">> 1\nmpost: out of steps\n", 3, 3),
+    ("--bare --steps 1 a.mp", "mpost: out of steps\n", 3, 1),
 ];
 
-fn expect_lines(rt: &impl Abort, alloc: Global, rows: &[(&str, &str, u8)]) -> Result<(), Fail> {
-    for (line, wanted, status) in rows {
-        let left = run_with(alloc, line, "show 1;end", &[], &[])?;
+#[test]
+fn command_lines_are_run(rt: HostRuntime) -> Result<(), Fail> {
+    for (line, wanted, status, steps) in &LINES {
+        let left = run_with(rt.alloc(), line, "show 1;end", &[], &[])?;
         assert_eq!(rt; left.written.as_slice(), wanted.as_bytes(), "{line}");
-        assert_eq!(rt; left.status, *status, "{line}");
-        let fetches = if *status == 2 { 0 } else { 1 };
-        assert_eq!(rt; left.fetches, fetches, "{line}");
+        assert_eq!(rt;
+            (left.status, left.steps, left.fetches),
+            (*status, *steps, 1),
+            "{line}"
+        );
     }
     Ok(())
-}
-
-#[test]
-fn command_lines_are_read(rt: HostRuntime) -> Result<(), Fail> {
-    expect_lines(&rt, rt.alloc(), &LINES)
 }
 
 /// A command line over `show 1;end` with a fetch and a write that fail, what is written and the status.

@@ -13,5 +13,5 @@ returns-in_default-end_line-clause-headline g c = starved_by _ _ _ _ (later_by _
 
 pub returns-clause-headline : goal.returns-clause-headline
 returns-clause-headline g c =
-    ran_by c.as_slice.result.now _ c.run-lines.result c.deliver-at.result _ _ _ (search rules)
+    ran_by c.as_slice.result.now c.budget.result _ c.run-lines.result c.deliver-at.result _ _ _ (search rules) (search rules)
     (c.run-lines.ensures.course.follows c.if-is_starved.ensures) (search rules) (search rules)
